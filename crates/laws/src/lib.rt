@@ -1,0 +1,1 @@
+// Laws of the rules, for every layer above to cite. There is no code here.

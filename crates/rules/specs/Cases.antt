@@ -1,0 +1,182 @@
+-- Document 01's example run and its twelve proved cases, in one table: what is asked from a fresh table, through bytes and the door,
+-- what the trace then says line by line, and what some bytes of the table hold afterwards.
+use mathlib.Core.Path.{_≡_}
+use mathlib.Core.List.{List, [], _∷_, _++_, map}
+use Prim.Native.Nat.{ℕ, zero, suc, pred, _+_, _*_}
+use lib.IntN.{ℤ, pos, negsuc}
+use lib.ListN.{length, take, drop}
+use Rattle.rules.specs.Board.{Board, printer, recordLength}
+use Rattle.rules.specs.Table.{wordBytes}
+use Rattle.rules.specs.Requests.{requestLength}
+use Rattle.rules.specs.Door.{door, freshTable}
+use Rattle.rules.specs.Trace.{TraceLine, served, short, records, cleanArea, trace}
+
+-- REQUESTS, by document 01's numbers
+
+abbrev ask : ℕ → ℕ → ℕ → ℕ → ℕ → List ℕ
+ask operation object priority number parcel = operation ∷ object ∷ priority ∷ 0 ∷ (wordBytes number ++ wordBytes parcel)
+
+abbrev create : ℕ → ℕ → ℕ → List ℕ
+create i p n = ask 1 i p n 0
+
+abbrev delete : ℕ → List ℕ
+delete i = ask 2 i 0 0 0
+
+abbrev suspend : ℕ → List ℕ
+suspend i = ask 4 i 0 0 0
+
+abbrev resume : ℕ → List ℕ
+resume i = ask 5 i 0 0 0
+
+abbrev delay : ℕ → List ℕ
+delay n = ask 6 0 0 n 0
+
+abbrev send : ℕ → ℕ → ℕ → List ℕ
+send i n x = ask 8 i 0 n x
+
+abbrev make : ℕ → ℕ → List ℕ
+make k n = ask 11 k 0 n 0
+
+abbrev pend : ℕ → ℕ → List ℕ
+pend k n = ask 13 k 0 n 0
+
+abbrev post : ℕ → ℕ → List ℕ
+post k n = ask 15 k 0 n 0
+
+abbrev lockOn : List ℕ
+lockOn = ask 17 0 0 0 0
+
+abbrev unlock : List ℕ
+unlock = ask 18 0 0 0 0
+
+abbrev tick : List ℕ
+tick = ask 19 0 0 0 0
+
+abbrev outcome : ℕ → List ℕ
+outcome i = ask 20 i 0 0 0
+
+-- ANSWERS, each with the thread that runs after it
+
+pub record Seen : Type 0 where
+  pub code : ℤ
+  pub value : ℕ
+  pub running : ℕ
+
+abbrev done : ℕ → Seen
+done r = record { code = pos 0; value = 0; running = r }
+
+abbrev blocked : ℕ → Seen
+blocked r = record { code = pos 1; value = 0; running = r }
+
+-- −k: a refusal, or an outcome that failed
+abbrev minus : ℕ → ℕ → Seen
+minus k r = record { code = negsuc (pred k); value = 0; running = r }
+
+-- CASES
+
+-- bytes that a thread's record holds from an offset on
+pub record Held : Type 0 where
+  pub thread : ℕ
+  pub offset : ℕ
+  pub bytes : List ℕ
+
+abbrev held : ℕ → ℕ → List ℕ → Held
+held i k bs = record { thread = i; offset = k; bytes = bs }
+
+pub record Case : Type 0 where
+  pub asked : List (List ℕ)
+  pub leftOver : List ℕ
+  pub seen : List Seen
+  pub holds : List Held
+
+abbrev case : List (List ℕ) → List Seen → Case
+case rs ss = record { asked = rs; leftOver = []; seen = ss; holds = [] }
+
+abbrev caseHolding : List (List ℕ) → List Seen → List Held → Case
+caseHolding rs ss hs = record { asked = rs; leftOver = []; seen = ss; holds = hs }
+
+unfoldable pub table : List Case
+table =
+    -- the example run
+    record {
+      asked = create 1 5 2 ∷ create 2 5 3 ∷ tick ∷ tick ∷ make 0 0 ∷ pend 0 100000 ∷ post 0 1 ∷ pend 0 0 ∷ ask 99 0 0 0 0 ∷ outcome 2 ∷ [];
+      leftOver = 7 ∷ 7 ∷ 7 ∷ [];
+      seen = done 1 ∷ done 1 ∷ done 1 ∷ done 2 ∷ done 2 ∷ blocked 1 ∷ done 1 ∷ minus 5 1 ∷ minus 8 1 ∷ done 1 ∷ [];
+      holds = [];
+    }
+    -- "(1) priority 31 accepted, 32 −2"
+    ∷ case (create 1 31 1 ∷ create 2 32 1 ∷ []) (done 1 ∷ minus 2 1 ∷ [])
+    -- "(2) turn 0 −3, 1 and 99,999 accepted, 100,000 −3"
+    ∷ case (create 1 5 0 ∷ create 1 5 1 ∷ create 2 5 99999 ∷ create 3 5 100000 ∷ []) (minus 3 0 ∷ done 1 ∷ done 1 ∷ minus 3 1 ∷ [])
+    -- "(3) priority 32 with turn 0 on slot 0: −2"
+    ∷ case (create 0 32 0 ∷ create 0 31 0 ∷ create 0 31 1 ∷ []) (minus 2 0 ∷ minus 3 0 ∷ minus 1 0 ∷ [])
+    -- "(4) Delay 1 ends at the next tick with 0": and Delay 2 does not
+    ∷ case (create 1 5 2 ∷ delay 1 ∷ outcome 1 ∷ tick ∷ outcome 1 ∷ []) (done 1 ∷ blocked 0 ∷ blocked 0 ∷ done 1 ∷ done 1 ∷ [])
+    ∷ case (create 1 5 2 ∷ delay 2 ∷ tick ∷ outcome 1 ∷ tick ∷ outcome 1 ∷ []) (done 1 ∷ blocked 0 ∷ done 0 ∷ blocked 0 ∷ done 1 ∷ done 1 ∷ [])
+    -- "(5) Pend on count 0 for 99,999 leaves that counter, for 100,000 leaves 0"
+    ∷ caseHolding (make 0 0 ∷ create 1 5 2 ∷ pend 0 99999 ∷ []) (done 0 ∷ done 1 ∷ blocked 0 ∷ []) (held 1 12 (wordBytes 99999) ∷ [])
+    ∷ caseHolding (make 0 0 ∷ create 1 5 2 ∷ pend 0 100000 ∷ []) (done 0 ∷ done 1 ∷ blocked 0 ∷ []) (held 1 12 (wordBytes 0) ∷ [])
+    -- "(6) count 0: Post 99 accepted, 100 −5; count 99: Post 1 −5"
+    ∷ case (make 0 0 ∷ post 0 100 ∷ post 0 99 ∷ post 0 1 ∷ []) (done 0 ∷ minus 5 0 ∷ done 0 ∷ minus 5 0 ∷ [])
+    -- "(7) a priority 3 waiter that came first is served before a priority 9 one"
+    ∷ case
+    (make 0 0 ∷ create 1 3 5 ∷ pend 0 100000 ∷ create 2 9 5 ∷ pend 0 100000 ∷ post 0 1 ∷ outcome 1 ∷ outcome 2 ∷ post 0 1 ∷ outcome 2 ∷ [])
+    (done 0 ∷ done 1 ∷ blocked 0 ∷ done 2 ∷ blocked 0 ∷ done 1 ∷ done 1 ∷ blocked 1 ∷ done 2 ∷ done 2 ∷ [])
+    -- "(8) Delete with two waiting senders: both −5"
+    ∷ case
+    (create 1 5 5 ∷ create 2 7 5 ∷ create 3 8 5 ∷ send 1 0 40 ∷ send 1 100000 41 ∷ send 1 100000 42 ∷ delete 1 ∷ outcome 2 ∷ outcome 3 ∷ [])
+    (done 1 ∷ done 2 ∷ done 3 ∷ done 3 ∷ blocked 2 ∷ blocked 1 ∷ done 3 ∷ minus 5 3 ∷ minus 5 3 ∷ [])
+    -- "(9) Post serves a suspended waiter: outcome 0, not ready": suspended, no wait, place 0
+    ∷ caseHolding
+    (make 0 0 ∷ create 1 5 5 ∷ pend 0 100000 ∷ suspend 1 ∷ post 0 1 ∷ outcome 1 ∷ [])
+    (done 0 ∷ done 1 ∷ blocked 0 ∷ done 0 ∷ done 0 ∷ done 0 ∷ [])
+    (held 1 2 (1 ∷ 0 ∷ 0 ∷ 0 ∷ []) ∷ [])
+    ∷ case
+    (make 0 0 ∷ create 1 5 5 ∷ pend 0 100000 ∷ suspend 1 ∷ post 0 1 ∷ resume 1 ∷ [])
+    (done 0 ∷ done 1 ∷ blocked 0 ∷ done 0 ∷ done 0 ∷ done 1 ∷ [])
+    -- "(10) broken off with 1 tick left, a thread gets 1 tick on return, then the next"
+    ∷ case
+    (create 1 5 2 ∷ create 2 5 3 ∷ tick ∷ create 3 9 1 ∷ tick ∷ tick ∷ delete 3 ∷ tick ∷ tick ∷ tick ∷ tick ∷ [])
+    (done 1 ∷ done 1 ∷ done 1 ∷ done 3 ∷ done 3 ∷ done 3 ∷ done 1 ∷ done 2 ∷ done 2 ∷ done 2 ∷ done 1 ∷ [])
+    -- "(11) Lock, Lock, Unlock: the outranking thread still waits": and a second Unlock lets it run
+    ∷ case (create 1 5 2 ∷ lockOn ∷ lockOn ∷ create 2 9 2 ∷ unlock ∷ unlock ∷ []) (done 1 ∷ done 1 ∷ done 1 ∷ done 1 ∷ done 1 ∷ done 2 ∷ [])
+    -- "(12) Delete 0 is −5, Delete 16 is −1"
+    ∷ case (delete 0 ∷ delete 16 ∷ delete 15 ∷ []) (minus 5 0 ∷ minus 1 0 ∷ minus 1 0 ∷ [])
+    ∷ []
+
+-- WHAT IS GIVEN, WHAT IS EXPECTED
+
+pub record Shown : Type 0 where
+  pub lines : List TraceLine
+  pub bytes : List (List ℕ)
+
+unfoldable pub joined : List (List ℕ) → List ℕ
+joined [] = []
+joined (r ∷ rs) = r ++ joined rs
+
+unfoldable pub tableAfter : List ℕ → List (List ℕ) → List ℕ
+tableAfter t [] = t
+tableAfter t (r ∷ rs) = tableAfter (door printer t r cleanArea .table) rs
+
+unfoldable pub bytesAt : List ℕ → Held → List ℕ
+bytesAt t h = take (length (h .bytes)) (drop (h .thread * recordLength + h .offset) t)
+
+unfoldable pub given : Case → Shown
+given c =
+    let after = tableAfter (freshTable printer) (c .asked) in
+    record { lines = trace printer (joined (c .asked) ++ c .leftOver); bytes = map (bytesAt after) (c .holds) }
+
+unfoldable pub numbered : ℕ → List Seen → ℕ → List TraceLine
+numbered n [] zero = []
+numbered n [] (suc k) = short (suc k) ∷ []
+numbered n (a ∷ rest) k = served n (a .code) (a .value) (a .running) ∷ numbered (suc n) rest k
+
+unfoldable pub heldBytes : Held → List ℕ
+heldBytes h = h .bytes
+
+unfoldable pub expected : Case → Shown
+expected c = record { lines = numbered 0 (c .seen) (length (c .leftOver)); bytes = map heldBytes (c .holds) }
+
+-- every case gives what document 01 expects of it
+abbrev pub Cases : Type 0
+Cases = map given table ≡ map expected table

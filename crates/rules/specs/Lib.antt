@@ -1,0 +1,19 @@
+-- What a reader has to believe: document 01 as definitions that compute.
+pub mod Basic
+pub mod Board
+pub mod State
+pub mod Lines
+pub mod Table
+pub mod Sound
+pub mod Test
+pub mod Answers
+pub mod Requests
+pub mod Waiting
+pub mod Threads
+pub mod Mail
+pub mod Semaphores
+pub mod Time
+pub mod Steps
+pub mod Door
+pub mod Trace
+pub mod Cases

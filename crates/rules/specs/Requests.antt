@@ -1,0 +1,101 @@
+-- "Requests: records of 12 bytes, no header. Byte 0 operation; 1 object; 2 priority; 3 zero; 4-7 number; 8-11 data."
+use mathlib.Core.Bool.{Bool, true, false, _&&_, _||_}
+use mathlib.Core.List.{List, [], _∷_}
+use mathlib.Core.Option.{Option, none, some}
+use Prim.Native.Nat.{ℕ}
+use lib.Dec.{eqb}
+use lib.ListN.{length, getD, getElem?}
+use Rattle.rules.specs.Basic.{if_then_else_}
+use Rattle.rules.specs.Table.{wordAt}
+use Rattle.rules.specs.declared.Request.{Request}
+use Rattle.rules.specs.declared.Request.the-variants.{
+  Yield,
+  Create,
+  Delete,
+  Set,
+  Suspend,
+  Resume,
+  Delay,
+  Cancel,
+  Send,
+  SendFromInterrupt,
+  Receive,
+  Make,
+  Drop,
+  Pend,
+  Abort,
+  Post,
+  PostFromInterrupt,
+  Lock,
+  Unlock,
+  Tick,
+  Outcome,
+}
+use Rattle.rules.specs.declared.Decoded.{Decoded}
+use Rattle.rules.specs.declared.Decoded.the-variants.{Asked, Bad}
+
+abbrev pub requestLength : ℕ
+requestLength = 12
+
+-- which of the four fields an operation uses, and the request that they make
+pub record Operation : Type 0 where
+  pub object : Bool
+  pub priority : Bool
+  pub number : Bool
+  pub parcel : Bool
+  pub asks : ℕ → ℕ → ℕ → ℕ → Request
+
+abbrev ✓ : Bool
+✓ = true
+
+abbrev ✗ : Bool
+✗ = false
+
+abbrev uses : Bool → Bool → Bool → Bool → (ℕ → ℕ → ℕ → ℕ → Request) → Operation
+uses o p n d r = record { object = o; priority = p; number = n; parcel = d; asks = r }
+
+-- document 01's column "Uses", in the order of the operations' numbers: object, priority, number, data
+abbrev pub operations : List Operation
+operations =
+    uses ✗ ✗ ✗ ✗ (λ o p n d. Yield)
+    ∷ uses ✓ ✓ ✓ ✗ (λ o p n d. Create o p n)
+    ∷ uses ✓ ✗ ✗ ✗ (λ o p n d. Delete o)
+    ∷ uses ✓ ✓ ✓ ✗ (λ o p n d. Set o p n)
+    ∷ uses ✓ ✗ ✗ ✗ (λ o p n d. Suspend o)
+    ∷ uses ✓ ✗ ✗ ✗ (λ o p n d. Resume o)
+    ∷ uses ✗ ✗ ✓ ✗ (λ o p n d. Delay n)
+    ∷ uses ✓ ✗ ✗ ✗ (λ o p n d. Cancel o)
+    ∷ uses ✓ ✗ ✓ ✓ (λ o p n d. Send o n d)
+    ∷ uses ✓ ✗ ✗ ✓ (λ o p n d. SendFromInterrupt o d)
+    ∷ uses ✗ ✗ ✓ ✗ (λ o p n d. Receive n)
+    ∷ uses ✓ ✗ ✓ ✗ (λ o p n d. Make o n)
+    ∷ uses ✓ ✗ ✗ ✗ (λ o p n d. Drop o)
+    ∷ uses ✓ ✗ ✓ ✗ (λ o p n d. Pend o n)
+    ∷ uses ✓ ✗ ✗ ✗ (λ o p n d. Abort o)
+    ∷ uses ✓ ✗ ✓ ✗ (λ o p n d. Post o n)
+    ∷ uses ✓ ✗ ✓ ✗ (λ o p n d. PostFromInterrupt o n)
+    ∷ uses ✗ ✗ ✗ ✗ (λ o p n d. Lock)
+    ∷ uses ✗ ✗ ✗ ✗ (λ o p n d. Unlock)
+    ∷ uses ✗ ✗ ✗ ✗ (λ o p n d. Tick)
+    ∷ uses ✓ ✗ ✗ ✗ (λ o p n d. Outcome o)
+    ∷ []
+
+-- a field that is used, or zero
+abbrev pub kept : Bool → ℕ → Bool
+kept used field = used || eqb field 0
+
+abbrev pub askedBy : Option Operation → ℕ → ℕ → ℕ → ℕ → Decoded
+askedBy none o p n d = Bad
+askedBy (some u) o p n d =
+    if kept (u .object) o && kept (u .priority) p && kept (u .number) n && kept (u .parcel) d then Asked (u .asks o p n d) else Bad
+
+-- the request of an operation's number and its four fields
+unfoldable pub requestOf : ℕ → ℕ → ℕ → ℕ → ℕ → Decoded
+requestOf operation o p n d = askedBy (getElem? operations operation) o p n d
+
+-- "−8: record not 12 bytes, operation above 20, byte 3 or an unused field not zero"
+unfoldable pub decodeRequest : List ℕ → Decoded
+decodeRequest r =
+    if eqb (length r) requestLength && eqb (getD r 3 0) 0
+    then requestOf (getD r 0 0) (getD r 1 0) (getD r 2 0) (wordAt r 4) (wordAt r 8)
+    else Bad

@@ -1,0 +1,45 @@
+-- The trace: what the trace program prints of its input, line by line.
+use mathlib.Core.Bool.{Bool, true, false}
+use mathlib.Core.List.{List, [], _∷_, _++_}
+use Prim.Native.Nat.{ℕ, zero, suc, _/_, _%_}
+use lib.Dec.{eqb}
+use lib.IntN.{ℤ}
+use lib.ListN.{length, take, drop, replicate}
+use Rattle.rules.specs.Basic.{if_then_else_}
+use Rattle.rules.specs.Board.{Board}
+use Rattle.rules.specs.State.{State}
+use Rattle.rules.specs.Table.{wordAt, decode}
+use Rattle.rules.specs.Answers.{areaLength}
+use Rattle.rules.specs.Requests.{requestLength}
+use Rattle.rules.specs.Door.{Doored, door, freshTable}
+
+-- "Per record: record number from 0, code, value, running thread after it."
+-- "Left-over bytes (1 to 11) give a last line `short N`."
+pub data TraceLine : Type 0 where
+  served : ℕ → ℤ → ℕ → ℕ → TraceLine
+  short : ℕ → TraceLine
+
+-- the first n records of the input
+unfoldable pub records : ℕ → List ℕ → List (List ℕ)
+records zero input = []
+records (suc n) input = take requestLength input ∷ records n (drop requestLength input)
+
+-- an area of 8 bytes to write the answer into
+abbrev pub cleanArea : List ℕ
+cleanArea = replicate areaLength 0
+
+-- what is printed of a record
+abbrev pub traceLine : Board → ℕ → Doored → TraceLine
+traceLine b n d = served n (d .code) (wordAt (d .area) 4) (decode b (d .table) .running)
+
+unfoldable pub traceFrom : Board → ℕ → List ℕ → List (List ℕ) → List TraceLine
+traceFrom b n t [] = []
+traceFrom b n t (r ∷ rs) = let d = door b t r cleanArea in traceLine b n d ∷ traceFrom b (suc n) (d .table) rs
+
+abbrev pub shortLine : ℕ → List TraceLine
+shortLine n = if eqb n 0 then [] else short n ∷ []
+
+-- "It reads request records from standard input, starts fresh."
+unfoldable pub trace : Board → List ℕ → List TraceLine
+trace b input =
+    traceFrom b 0 (freshTable b) (records (length input / requestLength) input) ++ shortLine (length input % requestLength)

@@ -1,0 +1,91 @@
+// The words of document 01 as types: what a table holds, what is asked of it, and what is answered.
+// What they mean is said in specs/, in definitions that compute; there is no code here.
+
+// "A thread has one wait at a time, of one kind": the kind, its object and its counter. A thread that waits for
+// nothing has what is left of its turn as its counter.
+pub enum Wait {
+    Nothing { counter: u32 },
+    Delay { counter: u32 },
+    Receive { counter: u32 },
+    Send { to: u8, counter: u32 },
+    Semaphore { on: u8, counter: u32 },
+}
+
+// How a thread's last wait ended.
+pub enum Outcome {
+    Done,
+    NoneYet,
+    Failed,
+}
+
+// A thread's record: `value` is its mailbox's, which is `full` or empty.
+pub struct Thread {
+    pub used: bool,
+    pub priority: u8,
+    pub suspended: bool,
+    pub wait: Wait,
+    pub place: u8,
+    pub full: bool,
+    pub outcome: Outcome,
+    pub turn: u32,
+    pub value: u32,
+    pub parcel: u32,
+}
+
+// A semaphore's record.
+pub struct Sem {
+    pub used: bool,
+    pub count: u8,
+}
+
+// The 21 operations, in the order of their numbers, each with the fields that it uses.
+pub enum Request {
+    Yield,
+    Create { thread: u8, priority: u8, turn: u32 },
+    Delete { thread: u8 },
+    Set { thread: u8, priority: u8, turn: u32 },
+    Suspend { thread: u8 },
+    Resume { thread: u8 },
+    Delay { number: u32 },
+    Cancel { thread: u8 },
+    Send { thread: u8, number: u32, parcel: u32 },
+    SendFromInterrupt { thread: u8, parcel: u32 },
+    Receive { number: u32 },
+    Make { semaphore: u8, number: u32 },
+    Drop { semaphore: u8 },
+    Pend { semaphore: u8, number: u32 },
+    Abort { thread: u8 },
+    Post { semaphore: u8, number: u32 },
+    PostFromInterrupt { semaphore: u8, number: u32 },
+    Lock,
+    Unlock,
+    Tick,
+    Outcome { thread: u8 },
+}
+
+// What a record of 12 bytes asks, if it asks anything.
+pub enum Decoded {
+    Asked { request: Request },
+    Bad,
+}
+
+// Why a request is refused: −1 to −8, in this order.
+pub enum Refusal {
+    BadThread,
+    BadPriority,
+    BadTicks,
+    BadState,
+    BadOperation,
+    BadSemaphore,
+    BadTable,
+    BadRecord,
+}
+
+// What is answered. `NoneYet` and `Failed` answer an Outcome that is 1 or −5: they are no refusals.
+pub enum Answer {
+    Done { value: u32 },
+    Blocked,
+    NoneYet,
+    Failed,
+    Refused { why: Refusal },
+}
