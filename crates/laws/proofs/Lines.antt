@@ -1,0 +1,132 @@
+-- What the tests of lines say, and which changes of a record leave its line alone: by cases on the wait. Assumes nothing.
+use mathlib.Core.Bool.{Bool, true, false, not, _&&_}
+use mathlib.Core.Path.{_≡_, refl, ap, sym, _∙_}
+use Prim.Native.Nat.{ℕ}
+use lib.Dec.{eqb}
+use borrow.Author.Tests.{eqb-true, eq-eqb}
+use Rattle.rules.specs.Basic.{if_then_else_}
+use Rattle.rules.specs.State.{waiting, isReady, withPlace, withCounter, withCounterOf}
+use Rattle.rules.specs.Lines.{Line, nowhere, ready, waiters, senders, same, waitLine, line, inLine, filled}
+use Rattle.rules.specs.declared.Thread.{Thread}
+use Rattle.rules.specs.declared.Wait.{Wait}
+use Rattle.rules.specs.declared.Wait.the-variants.{Nothing, Delay, Receive, Send, Semaphore}
+use Rattle.laws.proofs.Split.{Is, is, isnt, test, clash, if-case}
+
+pub same-eq : (a b : Line) → same a b ≡ true → a ≡ b
+same-eq nowhere b e = absurd (clash e refl)
+same-eq (ready p) nowhere e = absurd (clash e refl)
+same-eq (ready p) (ready q) e = ap ready (eqb-true p q e)
+same-eq (ready p) (waiters q) e = absurd (clash e refl)
+same-eq (ready p) (senders q) e = absurd (clash e refl)
+same-eq (waiters p) nowhere e = absurd (clash e refl)
+same-eq (waiters p) (ready q) e = absurd (clash e refl)
+same-eq (waiters p) (waiters q) e = ap waiters (eqb-true p q e)
+same-eq (waiters p) (senders q) e = absurd (clash e refl)
+same-eq (senders p) nowhere e = absurd (clash e refl)
+same-eq (senders p) (ready q) e = absurd (clash e refl)
+same-eq (senders p) (waiters q) e = absurd (clash e refl)
+same-eq (senders p) (senders q) e = ap senders (eqb-true p q e)
+
+pub same-nowhere : (a : Line) → same a nowhere ≡ false
+same-nowhere nowhere = refl
+same-nowhere (ready p) = refl
+same-nowhere (waiters p) = refl
+same-nowhere (senders p) = refl
+
+pub lines-apart : (a b c : Line) → same a c ≡ true → same b c ≡ false → same a b ≡ false
+lines-apart a b c p q = elim (test (same a b)) [
+  | is e ↦ absurd (clash p (rw (same-eq a b e) q))
+  | isnt e ↦ e
+]
+
+-- WHO IS IN A READY LINE
+
+wait-out : (p : ℕ) (u s : Bool) (w : Wait) (q : ℕ) → waiting w ≡ true → same (if u then waitLine w s q else nowhere) (ready p) ≡ false
+wait-out p false s w q e = refl
+wait-out p true s (Nothing n) q e = absurd (clash e refl)
+wait-out p true s (Delay n) q e = refl
+wait-out p true s (Receive n) q e = refl
+wait-out p true s (Send k n) q e = refl
+wait-out p true s (Semaphore k n) q e = refl
+
+pub waiting-out : (p : ℕ) (t : Thread) → waiting (t .wait) ≡ true → inLine (ready p) t ≡ false
+waiting-out p t e = wait-out p (t .used) (t .suspended) (t .wait) (t .priority) e
+
+ready-in : (p : ℕ) (u s : Bool) (w : Wait) (q : ℕ) → same (if u then waitLine w s q else nowhere) (ready p) ≡ true → (u && not s && not (waiting w) ≡ true) × (q ≡ p)
+ready-in p false s w q e = absurd (clash e refl)
+ready-in p true true (Nothing n) q e = absurd (clash e refl)
+ready-in p true false (Nothing n) q e = (refl, eqb-true q p e)
+ready-in p true s (Delay n) q e = absurd (clash e refl)
+ready-in p true s (Receive n) q e = absurd (clash e refl)
+ready-in p true s (Send k n) q e = absurd (clash e refl)
+ready-in p true s (Semaphore k n) q e = absurd (clash e refl)
+
+pub in-ready : (p : ℕ) (t : Thread) → inLine (ready p) t ≡ true → (isReady t ≡ true) × (t .priority ≡ p)
+in-ready p t e = ready-in p (t .used) (t .suspended) (t .wait) (t .priority) e
+
+ready-line : (u s : Bool) (w : Wait) (q : ℕ) → u && not s && not (waiting w) ≡ true → _≡_ {A = Line} (if u then waitLine w s q else nowhere) (ready q)
+ready-line false s w q e = absurd (clash e refl)
+ready-line true true w q e = absurd (clash e refl)
+ready-line true false (Nothing n) q e = refl
+ready-line true false (Delay n) q e = absurd (clash e refl)
+ready-line true false (Receive n) q e = absurd (clash e refl)
+ready-line true false (Send x n) q e = absurd (clash e refl)
+ready-line true false (Semaphore x n) q e = absurd (clash e refl)
+
+pub line-ready : (t : Thread) → isReady t ≡ true → line t ≡ ready (t .priority)
+line-ready t e = ready-line (t .used) (t .suspended) (t .wait) (t .priority) e
+
+pub ready-at : (p : ℕ) (t : Thread) → isReady t ≡ true → t .priority ≡ p → inLine (ready p) t ≡ true
+ready-at p t e k = rw (line-ready t e) (eq-eqb (t .priority) p k)
+
+pub unready-out : (p : ℕ) (t : Thread) → isReady t ≡ false → inLine (ready p) t ≡ false
+unready-out p t e = elim (test (inLine (ready p) t)) [
+  | is m ↦ absurd (clash (in-ready p t m .0) e)
+  | isnt m ↦ m
+]
+
+pub free-out : (l : Line) (t : Thread) → t .used ≡ false → inLine l t ≡ false
+free-out l t e = rw e
+
+suspend-out : (p : ℕ) (u : Bool) (w : Wait) (q : ℕ) → same (if u then waitLine w true q else nowhere) (ready p) ≡ false
+suspend-out p false w q = refl
+suspend-out p true (Nothing n) q = refl
+suspend-out p true (Delay n) q = refl
+suspend-out p true (Receive n) q = refl
+suspend-out p true (Send k n) q = refl
+suspend-out p true (Semaphore k n) q = refl
+
+pub suspended-out : (p : ℕ) (t : Thread) → t .suspended ≡ true → inLine (ready p) t ≡ false
+suspended-out p t e = rw e (suspend-out p (t .used) (t .wait) (t .priority))
+
+-- WHAT LEAVES THE LINE ALONE
+
+pub waiting-counter : (n : ℕ) (w : Wait) → waiting (withCounterOf n w) ≡ waiting w
+waiting-counter n (Nothing m) = refl
+waiting-counter n (Delay m) = refl
+waiting-counter n (Receive m) = refl
+waiting-counter n (Send k m) = refl
+waiting-counter n (Semaphore k m) = refl
+
+waitLine-counter : (n : ℕ) (w : Wait) (s : Bool) (p : ℕ) → waitLine (withCounterOf n w) s p ≡ waitLine w s p
+waitLine-counter n (Nothing m) s p = refl
+waitLine-counter n (Delay m) s p = refl
+waitLine-counter n (Receive m) s p = refl
+waitLine-counter n (Send k m) s p = refl
+waitLine-counter n (Semaphore k m) s p = refl
+
+pub line-counter : (n : ℕ) (t : Thread) → line (withCounter n t) ≡ line t
+line-counter n t = ap (λ l. if t .used then l else nowhere) (waitLine-counter n (t .wait) (t .suspended) (t .priority))
+
+pub ready-counter : (n : ℕ) (t : Thread) → isReady (withCounter n t) ≡ isReady t
+ready-counter n t = ap (λ b. t .used && not (t .suspended) && not b) (waiting-counter n (t .wait))
+
+-- what a counter does not bear on is the same of a filled thread
+pub filled-field : {A : Type 0} (f : Thread → A) (t : Thread) → f (withCounter (t .turn) t) ≡ f t → f (filled t) ≡ f t
+filled-field f t e = if-case (λ (u : Thread). f u ≡ f t) (isReady t) (λ a. e) (λ a. refl)
+
+pub line-filled : (t : Thread) → line (filled t) ≡ line t
+line-filled t = filled-field line t (line-counter (t .turn) t)
+
+pub ready-filled : (t : Thread) → isReady (filled t) ≡ isReady t
+ready-filled t = filled-field isReady t (ready-counter (t .turn) t)
