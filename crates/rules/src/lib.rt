@@ -41,26 +41,71 @@ pub struct Sem {
 // The 21 operations, in the order of their numbers, each with the fields that it uses.
 pub enum Request {
     Yield,
-    Create { thread: u8, priority: u8, turn: u32 },
-    Delete { thread: u8 },
-    Set { thread: u8, priority: u8, turn: u32 },
-    Suspend { thread: u8 },
-    Resume { thread: u8 },
-    Delay { number: u32 },
-    Cancel { thread: u8 },
-    Send { thread: u8, number: u32, parcel: u32 },
-    SendFromInterrupt { thread: u8, parcel: u32 },
-    Receive { number: u32 },
-    Make { semaphore: u8, number: u32 },
-    Drop { semaphore: u8 },
-    Pend { semaphore: u8, number: u32 },
-    Abort { thread: u8 },
-    Post { semaphore: u8, number: u32 },
-    PostFromInterrupt { semaphore: u8, number: u32 },
+    Create {
+        thread: u8,
+        priority: u8,
+        turn: u32,
+    },
+    Delete {
+        thread: u8,
+    },
+    Set {
+        thread: u8,
+        priority: u8,
+        turn: u32,
+    },
+    Suspend {
+        thread: u8,
+    },
+    Resume {
+        thread: u8,
+    },
+    Delay {
+        number: u32,
+    },
+    Cancel {
+        thread: u8,
+    },
+    Send {
+        thread: u8,
+        number: u32,
+        parcel: u32,
+    },
+    SendFromInterrupt {
+        thread: u8,
+        parcel: u32,
+    },
+    Receive {
+        number: u32,
+    },
+    Make {
+        semaphore: u8,
+        number: u32,
+    },
+    Drop {
+        semaphore: u8,
+    },
+    Pend {
+        semaphore: u8,
+        number: u32,
+    },
+    Abort {
+        thread: u8,
+    },
+    Post {
+        semaphore: u8,
+        number: u32,
+    },
+    PostFromInterrupt {
+        semaphore: u8,
+        number: u32,
+    },
     Lock,
     Unlock,
     Tick,
-    Outcome { thread: u8 },
+    Outcome {
+        thread: u8,
+    },
 }
 
 // What a record of 12 bytes asks, if it asks anything.
