@@ -1,7 +1,14 @@
 -- Laws of the rules.
 pub mod Split
+pub mod Reflect
+pub mod Counts
 pub mod Sums
 pub mod Lines
 pub mod Members
 pub mod Moves
 pub mod Placed
+pub mod Standing
+pub mod Places
+pub mod Records
+pub mod Tested
+pub mod Top

@@ -1,0 +1,3 @@
+-- Words for the bytes of a table that is worked on in place.
+pub mod Bytes
+pub mod Canon

@@ -1,0 +1,160 @@
+-- A step answers the refusal that document 01's two tables name, and a refusal leaves the state as it was: each operation is a
+-- ladder of tests in the order of the first table, and each test is the second table's condition. Assumes nothing.
+use mathlib.Core.Bool.{Bool, true, false, not, _&&_, _||_}
+use mathlib.Core.Path.{_≡_, refl}
+use mathlib.Core.List.{List, [], _∷_}
+use mathlib.Core.Option.{Option, none, some}
+use Prim.Native.Nat.{ℕ, _+_}
+use native.Mathlib.Omega.{arith}
+use native.Mathlib.Decide.{ℕ-discrete}
+use lib.Dec.{eqb, leb, ltb}
+use borrow.Author.Tests.{leb-true, ne-eqb, lt-ltb}
+use lib.ListN.{length, List·getD-eq-default}
+use Rattle.rules.specs.Basic.{if_then_else_}
+use Rattle.rules.specs.State.{State, free, freeSem, at, semAt}
+use Rattle.rules.specs.Waiting.{Step, refuse, accept, block, mayNotWait, neverWait, mustWait}
+use Rattle.rules.specs.Threads.{bound, doYield, doCreate, doDelete, doSet, doSuspend, doResume, doDelay, breakOff, doCancel}
+use Rattle.rules.specs.Mail.{doSend, doSendFromInterrupt, doReceive}
+use Rattle.rules.specs.Semaphores.{noSem, tooMany, posted, doMake, doDrop, doPend, doAbort, doPost, doPostFromInterrupt}
+use Rattle.rules.specs.Time.{doLock, doUnlock, doTick, outcomeAnswer, doOutcome}
+use Rattle.rules.specs.Steps.{step}
+use Rattle.rules.specs.declared.Wait.{Wait}
+use Rattle.rules.specs.declared.Outcome as Outcome
+use Rattle.rules.specs.declared.Refusal.{Refusal}
+use Rattle.rules.specs.declared.Refusal.the-variants.{BadThread, BadPriority, BadTicks, BadState, BadOperation, BadSemaphore}
+use Rattle.rules.specs.declared.Request.{Request}
+use Rattle.rules.specs.declared.Request.the-variants.{Yield, Create, Delete, Set, Suspend, Resume, Delay, Cancel, Send, SendFromInterrupt, Receive, Make, Drop, Pend, Abort, Post, PostFromInterrupt, Lock, Unlock, Tick, Outcome}
+use Rattle.laws.proofs.Split.{Is, is, isnt, test, clash, if-case}
+use Rattle.promises.specs.Refusals.{given, order, firstGiven, refusal, refusalIn, locked, cannotWait}
+
+-- a step answers one refusal or none, and leaves the state where it refuses
+pub record Says (s : State) (why : Option Refusal) (r : Step) : Type 0 where
+  pub answer : refusalIn (r .answer) ≡ why
+  pub state : (w : Refusal) → why ≡ some w → r .state ≡ s
+
+never : {A : Type 0} (w : A) → _≡_ {A = Option A} none (some w) → ⊥
+never w e = let z : _≡_ {A = ℕ} 0 1 = cc in omega arith
+
+refuses : (s : State) (why : Refusal) → Says s (some why) (refuse s why)
+refuses s why = record { answer = refl; state = λ w e. refl }
+
+accepts : (s : State) (r : Step) → refusalIn (r .answer) ≡ none → Says s none r
+accepts s r e = record { answer = e; state = λ w e. absurd (never w e) }
+
+-- a rung: the test is the condition
+rung : (s : State) (a b : Bool) (why : Refusal) (behind : Option Refusal) (r : Step) → a ≡ b → Says s behind r → Says s (if a then some why else behind) (if b then refuse s why else r)
+rung s a true why behind r e h = rw e (refuses s why)
+rung s a false why behind r e h = rw e h
+
+-- a branch that refuses nothing
+split : (s : State) (b : Bool) (x y : Step) → refusalIn (x .answer) ≡ none → refusalIn (y .answer) ≡ none → Says s none (if b then x else y)
+split s true x y e f = accepts s x e
+split s false x y e f = accepts s y f
+
+-- a number out of range reads as free
+thread-free : (s : State) (i : ℕ) → (leb (length (s .threads)) i || not (at (s .threads) i .used)) ≡ not (at (s .threads) i .used)
+thread-free s i = elim (test (leb (length (s .threads)) i)) [
+  | is e ↦ rw (e, List·getD-eq-default (s .threads) free (leb-true (length (s .threads)) i e))
+  | isnt e ↦ rw e
+]
+
+sem-free : (s : State) (k : ℕ) → (leb (length (s .sems)) k || not (semAt (s .sems) k .used)) ≡ not (semAt (s .sems) k .used)
+sem-free s k = elim (test (leb (length (s .sems)) k)) [
+  | is e ↦ rw (e, List·getD-eq-default (s .sems) freeSem (leb-true (length (s .sems)) k e))
+  | isnt e ↦ rw e
+]
+
+-- the lock is on when its count is above 0
+above-zero : (n : ℕ) → not (eqb n 0) ≡ ltb 0 n
+above-zero n = elim (ℕ-discrete n 0) [
+  | yes e ↦ rw e
+  | no e ↦ rw (ne-eqb n 0 e, lt-ltb 0 n (omega arith))
+]
+
+zero-is : (n : ℕ) → eqb n 0 ≡ not (ltb 0 n)
+zero-is n = elim (ℕ-discrete n 0) [
+  | yes e ↦ rw e
+  | no e ↦ rw (ne-eqb n 0 e, lt-ltb 0 n (omega arith))
+]
+
+bound-is : (s : State) (i : ℕ) → (eqb i 0 || (eqb i (s .running) && locked s)) ≡ bound s i
+bound-is s i = rw (above-zero (s .lock))
+
+may-not : (s : State) → (eqb (s .running) 0 || locked s) ≡ mayNotWait s
+may-not s = rw (above-zero (s .lock))
+
+cannot : (s : State) (n : ℕ) → cannotWait s n ≡ (neverWait n || mayNotWait s)
+cannot s n = go (eqb n 0) (eqb (s .running) 0)
+  where
+    go : (a b : Bool) → (a || b || locked s) ≡ (a || (b || ltb 0 (s .lock)))
+    go true b = refl
+    go false true = refl
+    go false false = above-zero (s .lock)
+
+locked-or : (s : State) (b : Bool) → (locked s || b) ≡ (ltb 0 (s .lock) || b)
+locked-or s b = rw (above-zero (s .lock))
+
+-- a call that must wait, in one of two branches
+must : (s : State) (n : ℕ) (w : ℕ → Wait) (x : ℕ) → Says s (if cannotWait s n then some BadOperation else none) (mustWait s n w x)
+unfolding mustWait block
+must s n w x = rung s (cannotWait s n) (neverWait n || mayNotWait s) BadOperation none _ (cannot s n) (accepts s _ refl)
+
+must-if : (s : State) (b : Bool) (n : ℕ) (w : ℕ → Wait) (x : ℕ) (r : Step) → refusalIn (r .answer) ≡ none
+    → Says s (if b && cannotWait s n then some BadOperation else none) (if b then mustWait s n w x else r)
+must-if s true n w x r e = must s n w x
+must-if s false n w x r e = accepts s r e
+
+must-unless : (s : State) (b c : Bool) (n : ℕ) (w : ℕ → Wait) (x : ℕ) (r : Step) → c ≡ not b → refusalIn (r .answer) ≡ none
+    → Says s (if c && cannotWait s n then some BadOperation else none) (if b then r else mustWait s n w x)
+must-unless s true c n w x r q e = rw q (accepts s r e)
+must-unless s false c n w x r q e = rw q (must s n w x)
+
+-- two rungs of one refusal
+either : (s : State) (a b : Bool) (why : Refusal) (behind : Option Refusal) (r : Step)
+    → Says s (if a then some why else (if b then some why else behind)) r → Says s (if a || b then some why else behind) r
+either s true b why behind r h = h
+either s false b why behind r h = h
+
+outcome-none : (o : Outcome.Outcome) (x : ℕ) → refusalIn (outcomeAnswer o x) ≡ none
+outcome-none Outcome.the-variants.Done x = refl
+outcome-none Outcome.the-variants.NoneYet x = refl
+outcome-none Outcome.the-variants.Failed x = refl
+
+-- EACH OPERATION
+
+posts : (s : State) (k n : ℕ) → Says s (refusal s (PostFromInterrupt k n)) (doPostFromInterrupt s k n)
+unfolding refusal firstGiven doPostFromInterrupt doPost
+posts s k n = elim (test (noSem s k)) [
+  | is e ↦ rw (sem-free s k, e) (refuses s BadSemaphore)
+  | isnt e ↦ rw (sem-free s k, e, above-zero (s .lock)) (last (ltb 0 (s .lock)) (tooMany s k n))
+]
+  where
+    last : (a b : Bool) → Says s (if b || a then some BadOperation else none) (if a then refuse s BadOperation else (if b then refuse s BadOperation else accept (posted s k n) 0))
+    last true true = refuses s BadOperation
+    last true false = refuses s BadOperation
+    last false true = refuses s BadOperation
+    last false false = accepts s _ refl
+
+pub says : (s : State) (q : Request) → Says s (refusal s q) (step s q)
+unfolding refusal firstGiven step doYield doCreate doDelete doSet doSuspend doResume doDelay doCancel breakOff doSend doSendFromInterrupt doReceive doMake doDrop doPend doAbort doPost doPostFromInterrupt doLock doUnlock doTick doOutcome block
+says s Yield = if-case (Says s none) (ltb 0 (s .lock)) (λ e. accepts s _ refl) (λ e. accepts s _ refl)
+says s (Create i p n) = search (rung, accepts) depth 8
+says s (Delete i) = search (rung, accepts, thread-free, bound-is) depth 8
+says s (Set i p n) = search (rung, split, accepts, thread-free) depth 8
+says s (Suspend i) = search (rung, split, accepts, thread-free, bound-is) depth 8
+says s (Resume i) = search (rung, split, accepts, thread-free) depth 8
+says s (Delay n) = search (rung, accepts, may-not) depth 8
+says s (Cancel i) = search (rung, accepts, thread-free) depth 8
+says s (Send i n x) = search (rung, either, must-if, thread-free) depth 8
+says s (SendFromInterrupt i x) = search (rung, accepts, thread-free, locked-or) depth 8
+says s (Receive n) = search must-unless depth 8
+says s (Make k n) = search (rung, accepts) depth 8
+says s (Drop k) = search (rung, accepts, sem-free) depth 8
+says s (Pend k n) = search (rung, must-unless, sem-free, zero-is) depth 8
+says s (Abort i) = search (rung, accepts, thread-free) depth 8
+says s (Post k n) = search (rung, accepts, sem-free) depth 8
+says s (PostFromInterrupt k n) = posts s k n
+says s Lock = search (rung, accepts) depth 8
+says s Unlock = search (rung, accepts) depth 8
+says s Tick = accepts s _ refl
+says s (Outcome i) = search (rung, accepts, thread-free, outcome-none) depth 8

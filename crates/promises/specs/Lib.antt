@@ -1,0 +1,3 @@
+-- What is promised, for an auditor to read with document 01 beside it.
+pub mod Refusals
+pub mod Demand1

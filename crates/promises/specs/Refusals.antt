@@ -1,0 +1,213 @@
+-- Document 01's two tables of refusals, written down apart from the operations, so that they can disagree with them.
+use mathlib.Core.Bool.{Bool, true, false, not, _&&_, _||_}
+use mathlib.Core.List.{List, [], _∷_}
+use mathlib.Core.Option.{Option, none, some}
+use Prim.Native.Nat.{ℕ, _+_}
+use lib.Dec.{eqb, leb, ltb}
+use lib.ListN.{length}
+use Rattle.rules.specs.Basic.{if_then_else_}
+use Rattle.rules.specs.State.{State, at, semAt, caller, delaying, pending}
+use Rattle.rules.specs.declared.Refusal.{Refusal}
+use Rattle.rules.specs.declared.Refusal.the-variants.{BadThread, BadPriority, BadTicks, BadState, BadOperation, BadSemaphore, BadTable, BadRecord}
+use Rattle.rules.specs.declared.Answer.{Answer}
+use Rattle.rules.specs.declared.Answer.the-variants.{Done, Blocked, NoneYet, Failed, Refused}
+use Rattle.rules.specs.declared.Request.{Request}
+use Rattle.rules.specs.declared.Request.the-variants.{
+  Yield,
+  Create,
+  Delete,
+  Set,
+  Suspend,
+  Resume,
+  Delay,
+  Cancel,
+  Send,
+  SendFromInterrupt,
+  Receive,
+  Make,
+  Drop,
+  Pend,
+  Abort,
+  Post,
+  PostFromInterrupt,
+  Lock,
+  Unlock,
+  Tick,
+  Outcome,
+}
+
+-- THE FIRST TABLE: "Refused, in this order"
+
+abbrev pub order : Request → List Refusal
+order Yield = []
+order (Create i p n) = BadPriority ∷ BadTicks ∷ BadThread ∷ []
+order (Delete i) = BadThread ∷ BadOperation ∷ []
+order (Set i p n) = BadPriority ∷ BadTicks ∷ BadThread ∷ BadOperation ∷ []
+order (Suspend i) = BadThread ∷ BadState ∷ BadOperation ∷ []
+order (Resume i) = BadThread ∷ BadState ∷ []
+order (Delay n) = BadTicks ∷ BadOperation ∷ []
+order (Cancel i) = BadThread ∷ BadState ∷ []
+order (Send i n x) = BadThread ∷ BadOperation ∷ []
+order (SendFromInterrupt i x) = BadThread ∷ BadOperation ∷ []
+order (Receive n) = BadOperation ∷ []
+order (Make k n) = BadSemaphore ∷ BadOperation ∷ []
+order (Drop k) = BadSemaphore ∷ []
+order (Pend k n) = BadSemaphore ∷ BadOperation ∷ []
+order (Abort i) = BadThread ∷ BadState ∷ []
+order (Post k n) = BadSemaphore ∷ BadOperation ∷ []
+order (PostFromInterrupt k n) = BadSemaphore ∷ BadOperation ∷ []
+order Lock = BadOperation ∷ []
+order Unlock = BadOperation ∷ []
+order Tick = []
+order (Outcome i) = BadThread ∷ []
+
+-- THE SECOND TABLE: "Given exactly when"
+
+-- what a request names, its priority, and its turn or delay; 0 and 1 where it has none
+pub data Named : Type 0 where
+  nothing : Named
+  thread newThread semaphore newSemaphore : ℕ → Named
+
+pub record Names : Type 0 where
+  pub object : Named
+  pub priority : ℕ
+  pub ticks : ℕ
+
+abbrev names : Named → ℕ → ℕ → Names
+names o p n = record { object = o; priority = p; ticks = n }
+
+abbrev pub namesOf : Request → Names
+namesOf Yield = names nothing 0 1
+namesOf (Create i p n) = names (newThread i) p n
+namesOf (Delete i) = names (thread i) 0 1
+namesOf (Set i p n) = names (thread i) p n
+namesOf (Suspend i) = names (thread i) 0 1
+namesOf (Resume i) = names (thread i) 0 1
+namesOf (Delay n) = names nothing 0 n
+namesOf (Cancel i) = names (thread i) 0 1
+namesOf (Send i n x) = names (thread i) 0 1
+namesOf (SendFromInterrupt i x) = names (thread i) 0 1
+namesOf (Receive n) = names nothing 0 1
+namesOf (Make k n) = names (newSemaphore k) 0 1
+namesOf (Drop k) = names (semaphore k) 0 1
+namesOf (Pend k n) = names (semaphore k) 0 1
+namesOf (Abort i) = names (thread i) 0 1
+namesOf (Post k n) = names (semaphore k) 0 1
+namesOf (PostFromInterrupt k n) = names (semaphore k) 0 1
+namesOf Lock = names nothing 0 1
+namesOf Unlock = names nothing 0 1
+namesOf Tick = names nothing 0 1
+namesOf (Outcome i) = names (thread i) 0 1
+
+-- "−1: thread number above 15, or free (Create: in use)": 15 is the last thread of the board
+abbrev pub minus1 : State → Named → Bool
+minus1 s nothing = false
+minus1 s (thread i) = leb (length (s .threads)) i || not (at (s .threads) i .used)
+minus1 s (newThread i) = leb (length (s .threads)) i || at (s .threads) i .used
+minus1 s (semaphore k) = false
+minus1 s (newSemaphore k) = false
+
+-- "−6: semaphore number above 7, or free (Make: in use)": 7 is the last semaphore of the board
+abbrev pub minus6 : State → Named → Bool
+minus6 s nothing = false
+minus6 s (thread i) = false
+minus6 s (newThread i) = false
+minus6 s (semaphore k) = leb (length (s .sems)) k || not (semAt (s .sems) k .used)
+minus6 s (newSemaphore k) = leb (length (s .sems)) k || semAt (s .sems) k .used
+
+-- "−4: Suspend: already suspended; Resume: not; Cancel: not in a delay; Abort: not waiting on a semaphore"
+abbrev pub minus4 : State → Request → Bool
+minus4 s Yield = false
+minus4 s (Create i p n) = false
+minus4 s (Delete i) = false
+minus4 s (Set i p n) = false
+minus4 s (Suspend i) = at (s .threads) i .suspended
+minus4 s (Resume i) = not (at (s .threads) i .suspended)
+minus4 s (Delay n) = false
+minus4 s (Cancel i) = not (delaying (at (s .threads) i .wait))
+minus4 s (Send i n x) = false
+minus4 s (SendFromInterrupt i x) = false
+minus4 s (Receive n) = false
+minus4 s (Make k n) = false
+minus4 s (Drop k) = false
+minus4 s (Pend k n) = false
+minus4 s (Abort i) = not (pending (at (s .threads) i .wait))
+minus4 s (Post k n) = false
+minus4 s (PostFromInterrupt k n) = false
+minus4 s Lock = false
+minus4 s Unlock = false
+minus4 s Tick = false
+minus4 s (Outcome i) = false
+
+abbrev pub locked : State → Bool
+locked s = not (eqb (s .lock) 0)
+
+-- "A call that must wait answers −5 if its number is 0, the caller is Init or the lock is on."
+abbrev pub cannotWait : State → ℕ → Bool
+cannotWait s n = eqb n 0 || eqb (s .running) 0 || locked s
+
+-- "−5: as said under each operation below"
+abbrev pub minus5 : State → Request → Bool
+minus5 s Yield = false
+minus5 s (Create i p n) = false
+-- "−5 for Init, or the running thread under lock."
+minus5 s (Delete i) = eqb i 0 || (eqb i (s .running) && locked s)
+-- "−5 for Init."
+minus5 s (Set i p n) = eqb i 0
+-- "−5 for Init, or the running thread under lock."
+minus5 s (Suspend i) = eqb i 0 || (eqb i (s .running) && locked s)
+minus5 s (Resume i) = false
+-- "−5 for Init or under lock."
+minus5 s (Delay n) = eqb (s .running) 0 || locked s
+minus5 s (Cancel i) = false
+-- "To oneself −5." "To a full one, the sender must wait."
+minus5 s (Send i n x) = eqb i (s .running) || (at (s .threads) i .full && cannotWait s n)
+-- "From an interrupt: −5 under lock or if full."
+minus5 s (SendFromInterrupt i x) = locked s || at (s .threads) i .full
+-- "An empty one must wait."
+minus5 s (Receive n) = not (caller s .full) && cannotWait s n
+-- "−5 if number is above 99."
+minus5 s (Make k n) = ltb 99 n
+minus5 s (Drop k) = false
+-- "With count above 0 takes one [..]; else must wait."
+minus5 s (Pend k n) = eqb (semAt (s .sems) k .count) 0 && cannotWait s n
+minus5 s (Abort i) = false
+-- "−5 if number is 0 or count + number is above 99; from an interrupt also under lock."
+minus5 s (Post k n) = eqb n 0 || ltb 99 (semAt (s .sems) k .count + n)
+minus5 s (PostFromInterrupt k n) = eqb n 0 || ltb 99 (semAt (s .sems) k .count + n) || locked s
+-- "Lock −5 at 255. Unlock −5 at 0."
+minus5 s Lock = leb 255 (s .lock)
+minus5 s Unlock = eqb (s .lock) 0
+minus5 s Tick = false
+minus5 s (Outcome i) = false
+
+abbrev pub given : State → Request → Refusal → Bool
+given s q BadThread = minus1 s (namesOf q .object)
+-- "−2: priority above 31"
+given s q BadPriority = ltb 31 (namesOf q .priority)
+-- "−3: turn or delay 0 or above 99,999"
+given s q BadTicks = eqb (namesOf q .ticks) 0 || ltb 99999 (namesOf q .ticks)
+given s q BadState = minus4 s q
+given s q BadOperation = minus5 s q
+given s q BadSemaphore = minus6 s (namesOf q .object)
+given s q BadTable = false
+given s q BadRecord = false
+
+-- THE REFUSAL
+
+-- the first of a list whose condition holds
+unfoldable pub firstGiven : State → Request → List Refusal → Option Refusal
+firstGiven s q [] = none
+firstGiven s q (why ∷ rest) = let behind = firstGiven s q rest in if given s q why then some why else behind
+
+-- the refusal that document 01's two tables name
+unfoldable pub refusal : State → Request → Option Refusal
+refusal s q = firstGiven s q (order q)
+
+-- the refusal that an answer is
+abbrev pub refusalIn : Answer → Option Refusal
+refusalIn (Done v) = none
+refusalIn Blocked = none
+refusalIn NoneYet = none
+refusalIn Failed = none
+refusalIn (Refused why) = some why

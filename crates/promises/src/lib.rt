@@ -1,0 +1,1 @@
+// The three demands as theorems: statements in specs/, proofs in proofs/. There is no code here.
