@@ -5,9 +5,9 @@ use mathlib.Core.Logic.{_≢_}
 use mathlib.Core.List.{List, [], _∷_, map}
 use Prim.Native.Nat.{ℕ, zero, suc, _+_, _≤_, _<_}
 use native.Mathlib.Omega.{arith}
-use native.Mathlib.Decide.{decLt}
+use native.Mathlib.Decide.{ℕ-discrete, decLt}
 use lib.ListN.{length, getD, set, length-set, List·getD-map, List·getD-eq-default}
-use lib.Seq.{getD-set-same, getD-set-other}
+use lib.Seq.{getD-set-same, getD-set-other, set-out}
 use Rattle.rules.specs.Basic.{bit, count}
 use Rattle.rules.specs.State.{free, at, edit}
 use Rattle.rules.specs.Lines.{Line, inLine}
@@ -23,6 +23,16 @@ edit-other ts i j g h = getD-set-other ts i j (g (at ts i)) free h
 
 pub length-edit : (ts : List Thread) (i : ℕ) (g : Thread → Thread) → length (edit i g ts) ≡ length ts
 length-edit ts i g = length-set ts i (g (at ts i))
+
+-- what holds of the new element and of the old ones holds of each after a change of one
+pub set-each : {A : Type 0} (P : ℕ → A → Type 0) (d : A) (xs : List A) (i : ℕ) (x : A) → P i x → ((j : ℕ) → P j (getD xs j d)) → (j : ℕ) → P j (getD (set xs i x) j d)
+set-each P d xs i x h k j = elim (ℕ-discrete j i) [
+  | no n ↦ rw (getD-set-other xs i j x d n) (k j)
+  | yes q ↦ elim (decLt i (length xs)) [
+    | yes l ↦ rw (q, getD-set-same xs i x d l) h
+    | no l ↦ rw (set-out xs i x (omega arith)) (k j)
+  ]
+]
 
 pub map-at : (ts : List Thread) (i : ℕ) (f : Thread → Thread) → f free ≡ free → at (map f ts) i ≡ f (at ts i)
 map-at ts i f e = rw e at (List·getD-map f ts i free)
@@ -43,7 +53,7 @@ used-range ts i e = elim (decLt i (length ts)) [
 
 -- COUNTS, as sums over the numbers
 
-Σ-shift : (n : ℕ) (f : ℕ → ℕ) → Σ< (suc n) f ≡ f 0 + Σ< n (λ j. f (suc j))
+pub Σ-shift : (n : ℕ) (f : ℕ → ℕ) → Σ< (suc n) f ≡ f 0 + Σ< n (λ j. f (suc j))
 Σ-shift zero f = omega arith
 Σ-shift (suc n) f = omega (arith, Σ-shift n f)
 

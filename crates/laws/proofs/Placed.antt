@@ -18,7 +18,7 @@ use Rattle.laws.proofs.Lines.{same-eq, same-nowhere, line-filled, fille
 use Rattle.laws.proofs.Members.{count-ext, count-change, count-pos}
 use Rattle.laws.proofs.Moves.{Shifted, stays, steps, shifted, moveUp-field, moveUp-not, move-other, move-self, length-move, changed, changed-self, changed-other, length-changed}
 
-count-nowhere : (ts : List Thread) → lineLength nowhere ts ≡ 0
+pub count-nowhere : (ts : List Thread) → lineLength nowhere ts ≡ 0
 count-nowhere [] = refl
 count-nowhere (t ∷ ts) = omega (arith, count-nowhere ts, ap bit (same-nowhere (line t)))
 
@@ -73,6 +73,11 @@ module _ (ts : List Thread) (λs : Lines ts) (i : ℕ) (i< : i < length ts) (g :
 
   counts : (l : Line) → lineLength l us + bit (inLine l (at ts i)) ≡ lineLength l ts + bit (inLine l new)
   counts l = rw (← self-in l) (count-change (inLine l) ts us i i< len (other-in l))
+
+  -- a line loses the one that leaves it and gains the one that joins it
+  pub move-count : (l : Line) → lineLength l (move i g ts) + bit (inLine l (at ts i)) ≡ lineLength l ts + bit (inLine l (g (withPlace 0 (at ts i))))
+  unfolding us new
+  move-count l = counts l
 
   -- a thread of a line other than i: at 1 or more, and at most the number of the line's others
   bounds : (l : Line) (j : ℕ) → j ≢ i → inLine l (at ts j) ≡ true → (1 ≤ gone j .place) × (gone j .place + bit (inLine l (at ts i)) ≤ lineLength l ts)

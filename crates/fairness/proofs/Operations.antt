@@ -1,0 +1,258 @@
+-- Every operation but a tick's charge keeps the rank, where the rank's ready set comes out the same: whom it moves is no member, or has
+-- left the set. Assumes nothing.
+use mathlib.Core.Bool.{Bool, true, false, not, _&&_, _||_}
+use mathlib.Core.Path.{_≡_, refl, ap, sym, _∙_}
+use mathlib.Core.List.{List, [], _∷_}
+use Prim.Native.Nat.{ℕ, zero, suc, pred, _<_}
+use native.Mathlib.Omega.{arith}
+use native.Mathlib.Decide.{ℕ-discrete, decLt}
+use lib.Dec.{eqb, ltb}
+use borrow.Author.Tests.{ltb-false, not-false}
+use lib.ListN.{length, List·getD-eq-default}
+use Rattle.rules.specs.Basic.{if_then_else_, find}
+use Rattle.rules.specs.State.{State, free, at, caller, counterOf, waiting, delaying, receiving, pending, isReady, withPlace, withCounter, withMail, withSettings, withThreads, edit}
+use Rattle.rules.specs.Lines.{Line, senders, waiters, ready, same, line, inLine, lineLength, isFirst, first, moveUp, filled, move, settle}
+use Rattle.rules.specs.Answers.{codeOf}
+use Rattle.rules.specs.Waiting.{Step, refuse, accept, acceptThreads, ended, endWait, serve, begun, block, mustWait}
+use Rattle.rules.specs.Threads.{badPriority, badTicks, noThread, doYield, doCreate, deleted, doDelete, doSet, stopped, doSuspend, doResume, doDelay, breakOff, doCancel}
+use Rattle.rules.specs.Mail.{delivered, doSend, doSendFromInterrupt, emptied, doReceive}
+use Rattle.rules.specs.Semaphores.{doMake, doDrop, doPend, doAbort, posted, doPost, doPostFromInterrupt}
+use Rattle.rules.specs.Time.{doLock, doUnlock, timedOut, countDown, timeouts, doOutcome}
+use Rattle.rules.specs.declared.Thread.{Thread}
+use Rattle.rules.specs.declared.Wait.{Wait}
+use Rattle.rules.specs.declared.Wait.the-variants as Waits
+use Rattle.rules.specs.declared.Outcome as Outcomes
+use Rattle.rules.specs.declared.Outcome.the-variants.{Done, Failed}
+use Rattle.rules.specs.Steps.{step}
+use Rattle.rules.specs.declared.Request.{Request}
+use Rattle.rules.specs.declared.Request.the-variants.{
+  Yield,
+  Create,
+  Delete,
+  Set,
+  Suspend,
+  Resume,
+  Delay,
+  Cancel,
+  Send,
+  SendFromInterrupt,
+  Receive,
+  Make,
+  Drop,
+  Pend,
+  Abort,
+  Post,
+  PostFromInterrupt,
+  Lock,
+  Unlock,
+  Tick,
+  Outcome,
+}
+use Rattle.rules.specs.declared.Answer.{Answer}
+use Rattle.laws.proofs.Split.{Is, is, isnt, test, clash, and-true, or-false, if-case}
+use Rattle.laws.proofs.Lines.{same-eq, line-filled, waiting-out, unready-out, free-out, suspended-out}
+use Rattle.laws.proofs.Members.{in-range}
+use Rattle.laws.proofs.Moves.{moveUp-field, move-other, move-self, length-move}
+use Rattle.fairness.specs.Run.{isTick, kindOf, isZero}
+use Rattle.fairness.specs.Fair.{moves}
+use Rattle.fairness.proofs.Keeps.{Kept, Keeps, Same, keeps-refl, keeps-trans, keeps-off, keeps-edit, keeps-move}
+
+-- THE FIRST OF A LINE
+
+find-hit : (f : Thread → Bool) (ts : List Thread) → find f ts < length ts → f (at ts (find f ts)) ≡ true
+find-hit f [] h = absurd (omega arith)
+find-hit f (t ∷ ts) h = elim (test (f t)) [
+  | is e ↦ rw e e
+  | isnt e ↦ rw e (find-hit f ts (omega (arith, rw e at h)))
+]
+
+-- the first of a line that is no ready line of rank p is no member of the rank
+first-out : (p : ℕ) (l : Line) (ts : List Thread) → same l (ready p) ≡ false → inLine (ready p) (at ts (first l ts)) ≡ false
+first-out p l ts e = elim (decLt (first l ts) (length ts)) [
+  | yes h ↦ rw (same-eq (line (at ts (first l ts))) l (and-true _ _ (find-hit (isFirst l) ts h) .0)) e
+  | no h ↦ ap (inLine (ready p)) (List·getD-eq-default ts free (omega arith))
+]
+
+pub keeps-serve : (p n : ℕ) (l : Line) (o : Outcomes.Outcome) (ts : List Thread) → same l (ready p) ≡ false → Keeps p ts (serve n l o ts)
+unfolding serve endWait
+keeps-serve p zero l o ts e = keeps-refl p ts
+keeps-serve p (suc n) l o ts e = keeps-trans p _ _ _ (keeps-move p (first l ts) (ended o 0) ts (first-out p l ts e)) (keeps-serve p n l o (endWait (first l ts) o 0 ts) e)
+
+-- a free record stays free while a line is served
+serve-free : (n : ℕ) (l : Line) (o : Outcomes.Outcome) (ts : List Thread) (i : ℕ) → i < length ts → at ts i .used ≡ false → at (serve n l o ts) i .used ≡ false
+unfolding serve endWait
+serve-free zero l o ts i h e = e
+serve-free (suc n) l o ts i h e = serve-free n l o (endWait (first l ts) o 0 ts) i (rw (length-move (first l ts) (ended o 0) ts) h) (elim (ℕ-discrete i (first l ts)) [
+  | yes q ↦ absurd (clash (and-true _ _ (rw (← q) at (find-hit (isFirst l) ts (rw (← q) h))) .0) (free-out l (at ts i) e))
+  | no q ↦ rw (move-other (first l ts) i (ended o 0) ts q) (moveUp-field (λ t. t .used) (line (at ts (first l ts))) (at ts (first l ts) .place) (at ts i) refl ∙ e)
+])
+
+-- TIMEOUTS
+
+keeps-count : (p i : ℕ) (ts : List Thread) → Keeps p ts (countDown i ts)
+unfolding countDown endWait
+keeps-count p i ts =
+    let w = at ts i .wait in
+    if-case (Keeps p ts) (not (waiting w) || eqb (counterOf w) 0) (λ a. keeps-refl p ts) (λ a.
+    let out = waiting-out p (at ts i) (not-false _ (or-false _ _ a .0)) in
+    if-case (Keeps p ts) (eqb (counterOf w) 1) (λ b. keeps-move p i (ended (timedOut w) 0) ts out) (λ b.
+    keeps-off p i (withCounter (pred (counterOf w))) ts out))
+
+pub keeps-timeouts : (p n : ℕ) (ts : List Thread) → Keeps p ts (timeouts n ts)
+unfolding timeouts
+keeps-timeouts p zero ts = keeps-refl p ts
+keeps-timeouts p (suc n) ts = keeps-trans p _ _ _ (keeps-timeouts p n ts) (keeps-count p n (timeouts n ts))
+
+-- THE OPERATIONS
+
+unfoldable pub Effect : ℕ → State → Step → Type 0
+Effect p s r = Same p (s .threads) (r .state .threads) → Keeps p (s .threads) (r .state .threads)
+
+pub settle-threads : (s : State) → settle s .threads ≡ s .threads
+unfolding settle
+settle-threads s = if-case (λ (u : State). u .threads ≡ s .threads) (eqb (s .lock) 0) (λ e. refl) (λ e. refl)
+
+or-right : (a b : Bool) → a || b ≡ false → b ≡ false
+or-right a b e = or-false a b e .1
+
+effect-if : (p : ℕ) (s : State) (b : Bool) (x y : Step) → (b ≡ true → Effect p s x) → (b ≡ false → Effect p s y) → Effect p s (if b then x else y)
+effect-if p s true x y f g = f refl
+effect-if p s false x y f g = g refl
+
+untouched : (p : ℕ) (s : State) (a : Answer) → Effect p s (record { state = s; answer = a })
+unfolding Effect
+untouched p s a h = keeps-refl p (s .threads)
+
+settled : (p : ℕ) (s u : State) (a : Answer) → Keeps p (s .threads) (u .threads) → Effect p s (record { state = settle u; answer = a })
+unfolding Effect
+settled p s u a k h = rw (settle-threads u) k
+
+-- the line of a thread that has moved
+moved-in : (l : Line) (i : ℕ) (g : Thread → Thread) (ts : List Thread) → i < length ts → inLine l (at (move i g ts) i) ≡ inLine l (g (withPlace 0 (at ts i)))
+moved-in l i g ts h = rw (move-self i g ts h, line-filled)
+
+-- thread i leaves its ready line for good: it is no member, or the set is not the same
+left : (p : ℕ) (s : State) (a : Answer) (i : ℕ) (g : Thread → Thread) → ((t : Thread) → inLine (ready p) (g t) ≡ false)
+    → Effect p s (record { state = settle (withThreads (move i g (s .threads)) s); answer = a })
+unfolding Same Effect
+left p s a i g h k =
+    let u = withThreads (move i g (s .threads)) s in
+    rw (settle-threads u) (elim (test (inLine (ready p) (at (s .threads) i))) [
+      | is m ↦ absurd (clash m (sym (rw (settle-threads u) at (k i)) ∙ moved-in (ready p) i g (s .threads) (in-range (s .threads) i (ready p) m) ∙ h _))
+      | isnt m ↦ keeps-move p i g (s .threads) m
+    ])
+
+-- a yield with lock 0 is by no member
+unlocked : (n : ℕ) (b : Bool) → eqb n 0 && b ≡ false → ltb 0 n ≡ false → b ≡ false
+unlocked zero b e z = e
+unlocked (suc n) b e z = absurd (omega (arith, ltb-false 0 (suc n) z))
+
+-- a delay, and a wait on a semaphore or for data, is a wait
+delaying-waits : (w : Wait) → delaying w ≡ true → waiting w ≡ true
+delaying-waits (Waits.Nothing n) e = e
+delaying-waits (Waits.Delay n) e = refl
+delaying-waits (Waits.Receive n) e = refl
+delaying-waits (Waits.Send to n) e = refl
+delaying-waits (Waits.Semaphore on n) e = refl
+
+pending-waits : (w : Wait) → pending w ≡ true → waiting w ≡ true
+pending-waits (Waits.Nothing n) e = e
+pending-waits (Waits.Delay n) e = refl
+pending-waits (Waits.Receive n) e = refl
+pending-waits (Waits.Send to n) e = refl
+pending-waits (Waits.Semaphore on n) e = refl
+
+receiving-waits : (w : Wait) → receiving w ≡ true → waiting w ≡ true
+receiving-waits (Waits.Nothing n) e = e
+receiving-waits (Waits.Delay n) e = refl
+receiving-waits (Waits.Receive n) e = refl
+receiving-waits (Waits.Send to n) e = refl
+receiving-waits (Waits.Semaphore on n) e = refl
+
+keeps-mail : (p i : ℕ) (b : Bool) (x : ℕ) (ts : List Thread) → Keeps p ts (edit i (withMail b x) ts)
+keeps-mail p i b x ts = keeps-edit p i (withMail b x) ts (λ m. record { member = m; place = refl; counter = refl; turn = refl })
+
+keeps-delivered : (p i x : ℕ) (ts : List Thread) → Keeps p ts (delivered i x ts)
+unfolding delivered endWait
+keeps-delivered p i x ts =
+    if-case (Keeps p ts) (receiving (at ts i .wait))
+    (λ e. keeps-move p i (ended Done x) ts (waiting-out p (at ts i) (receiving-waits (at ts i .wait) e)))
+    (λ e. keeps-mail p i true x ts)
+
+keeps-emptied : (p r : ℕ) (ts : List Thread) → Keeps p ts (emptied r ts)
+unfolding emptied endWait
+keeps-emptied p r ts =
+    let i = first (senders r) ts in
+    if-case (Keeps p ts) (eqb (lineLength (senders r) ts) 0) (λ a. keeps-mail p r false 0 ts) (λ a.
+    keeps-trans p _ _ _ (keeps-move p i (ended Done 0) ts (first-out p (senders r) ts refl)) (keeps-mail p r true (at ts i .parcel) _))
+
+gone : (p : ℕ) (s : State) (i : ℕ) → Effect p s (acceptThreads s (deleted i (s .threads)))
+unfolding deleted Effect Same
+gone p s i k =
+    let ts = s .threads in
+    let us = move i (λ t. free) ts in
+    let n = lineLength (senders i) ts in
+    rw (settle-threads (withThreads (deleted i ts) s)) (elim (test (inLine (ready p) (at ts i))) [
+      | is m ↦
+          let h = in-range ts i (ready p) m in
+          absurd (clash m (sym (rw (settle-threads (withThreads (deleted i ts) s)) at (k i)) ∙ free-out (ready p) (at (deleted i ts) i)
+          (serve-free n (senders i) Failed us i (rw (length-move i (λ t. free) ts) h) (rw (move-self i (λ t. free) ts h)))))
+      | isnt m ↦ keeps-trans p ts us _ (keeps-move p i (λ t. free) ts m) (keeps-serve p n (senders i) Failed us refl)
+    ])
+
+sets : (p : ℕ) (s : State) (i q n : ℕ) → isZero (codeOf (doSet s i q n .answer)) && inLine (ready p) (at (s .threads) i) ≡ false → Effect p s (doSet s i q n)
+unfolding doSet
+sets p s i q n =
+    let P : Step → Type 0 = λ r. isZero (codeOf (r .answer)) && inLine (ready p) (at (s .threads) i) ≡ false → Effect p s r in
+    if-case P (badPriority q) (λ a h. untouched p s _) (λ a.
+    if-case P (badTicks n) (λ b h. untouched p s _) (λ b.
+    if-case P (noThread s i) (λ c h. untouched p s _) (λ c.
+    if-case P (eqb i 0) (λ d h. untouched p s _) (λ d.
+    if-case P (isReady (at (s .threads) i) && not (eqb (at (s .threads) i .priority) q))
+    (λ e h. settled p s _ _ (keeps-move p i (withSettings q n) (s .threads) h))
+    (λ e h. settled p s _ _ (keeps-off p i (λ t. filled (withSettings q n t)) (s .threads) h))))))
+
+stops : (p : ℕ) (s : State) (i : ℕ) → Effect p s (acceptThreads s (move i stopped (s .threads)))
+stops p s i = left p s _ i stopped (λ t. suspended-out p (stopped t) refl)
+
+blocks : (p : ℕ) (s : State) (w : Wait) (x : ℕ) → waiting w ≡ true → Effect p s (block s w x)
+unfolding block
+blocks p s w x e = left p s _ (s .running) (begun w x) (λ t. waiting-out p (begun w x t) e)
+
+-- ANY REQUEST
+
+yield-done : (s : State) → isZero (codeOf (doYield s .answer)) ≡ true
+unfolding doYield
+yield-done s = if-case (λ (r : Step). isZero (codeOf (r .answer)) ≡ true) (ltb 0 (s .lock)) (λ e. refl) (λ e. refl)
+
+-- a request is a tick, or keeps the rank
+pub data Does (p : ℕ) (s : State) (q : Request) : Type 0 where
+  ticks : q ≡ Tick → Does p s q
+  keeps : isTick (kindOf q) ≡ false → Effect p s (step s q) → Does p s q
+
+ruleset ranks = (effect-if, untouched, settled, gone, stops, blocks, keeps-refl, keeps-move, keeps-off, keeps-serve, keeps-delivered, keeps-emptied, free-out, unready-out, waiting-out, suspended-out, delaying-waits, pending-waits, unlocked, or-right, not-false)
+
+pub does : (p : ℕ) (s : State) (q : Request) → isZero (codeOf (step s q .answer)) && moves p s (kindOf q) ≡ false → Does p s q
+unfolding step doYield doCreate doDelete doSuspend doResume doDelay breakOff doCancel endWait block mustWait doSend doSendFromInterrupt doReceive doMake doDrop doPend doAbort posted doPost
+    doPostFromInterrupt doLock doUnlock doOutcome
+does p s Yield h = let o : eqb (s .lock) 0 && inLine (ready p) (caller s) ≡ false = rw (yield-done s) at h in keeps refl (search ranks depth 12)
+does p s (Create i r n) h = keeps refl (search ranks depth 12)
+does p s (Delete i) h = keeps refl (search ranks depth 12)
+does p s (Set i r n) h = keeps refl (sets p s i r n h)
+does p s (Suspend i) h = keeps refl (search ranks depth 12)
+does p s (Resume i) h = keeps refl (search ranks depth 12)
+does p s (Delay n) h = keeps refl (search ranks depth 12)
+does p s (Cancel i) h = keeps refl (search ranks depth 12)
+does p s (Send i n x) h = keeps refl (search ranks depth 12)
+does p s (SendFromInterrupt i x) h = keeps refl (search ranks depth 12)
+does p s (Receive n) h = keeps refl (search ranks depth 12)
+does p s (Make k n) h = keeps refl (search ranks depth 12)
+does p s (Drop k) h = keeps refl (search ranks depth 12)
+does p s (Pend k n) h = keeps refl (search ranks depth 12)
+does p s (Abort i) h = keeps refl (search ranks depth 12)
+does p s (Post k n) h = keeps refl (search ranks depth 12)
+does p s (PostFromInterrupt k n) h = keeps refl (search ranks depth 12)
+does p s Lock h = keeps refl (search ranks depth 12)
+does p s Unlock h = keeps refl (search ranks depth 12)
+does p s Tick h = ticks refl
+does p s (Outcome i) h = keeps refl (search ranks depth 12)

@@ -1,0 +1,139 @@
+-- A run, event by event, and the words that demand 3 uses of it: the ready set of a rank, its threads' turns, and the ticks that are
+-- charged. They compute from what was asked and answered; they know neither the rules nor the bytes.
+use mathlib.Core.Bool.{Bool, true, false, not, _&&_}
+use mathlib.Core.List.{List, [], _∷_, map}
+use Prim.Native.Nat.{ℕ, _+_}
+use lib.Dec.{eqb}
+use lib.IntN.{ℤ, pos, negsuc}
+use Rattle.rules.specs.Basic.{if_then_else_, bit, count, sameBytes}
+use Rattle.rules.specs.State.{State, at, caller}
+use Rattle.rules.specs.Lines.{ready, inLine}
+use Rattle.rules.specs.declared.Thread.{Thread}
+use Rattle.rules.specs.declared.Request.{Request}
+use Rattle.rules.specs.declared.Request.the-variants.{
+  Yield,
+  Create,
+  Delete,
+  Set,
+  Suspend,
+  Resume,
+  Delay,
+  Cancel,
+  Send,
+  SendFromInterrupt,
+  Receive,
+  Make,
+  Drop,
+  Pend,
+  Abort,
+  Post,
+  PostFromInterrupt,
+  Lock,
+  Unlock,
+  Tick,
+  Outcome,
+}
+use Rattle.rules.specs.declared.Decoded.{Decoded}
+use Rattle.rules.specs.declared.Decoded.the-variants.{Asked, Bad}
+
+-- a step of a run: the state before it, what was asked, the code that was answered, and the state after it
+pub record Event : Type 0 where
+  pub before : State
+  pub asked : Decoded
+  pub code : ℤ
+  pub after : State
+
+-- WHAT WAS ASKED, as far as the demand tells requests apart
+
+-- `change i` changes the settings of thread i
+pub data Kind : Type 0 where
+  tick yield other : Kind
+  change : ℕ → Kind
+
+abbrev pub kindOf : Request → Kind
+kindOf Yield = yield
+kindOf (Create i p n) = other
+kindOf (Delete i) = other
+kindOf (Set i p n) = change i
+kindOf (Suspend i) = other
+kindOf (Resume i) = other
+kindOf (Delay n) = other
+kindOf (Cancel i) = other
+kindOf (Send i n x) = other
+kindOf (SendFromInterrupt i x) = other
+kindOf (Receive n) = other
+kindOf (Make k n) = other
+kindOf (Drop k) = other
+kindOf (Pend k n) = other
+kindOf (Abort i) = other
+kindOf (Post k n) = other
+kindOf (PostFromInterrupt k n) = other
+kindOf Lock = other
+kindOf Unlock = other
+kindOf Tick = tick
+kindOf (Outcome i) = other
+
+-- a record that asks nothing is none of these
+abbrev pub kind : Decoded → Kind
+kind (Asked q) = kindOf q
+kind Bad = other
+
+abbrev pub isTick : Kind → Bool
+isTick tick = true
+isTick yield = false
+isTick other = false
+isTick (change i) = false
+
+-- "accepted": a tick, a yield and a change of settings answer 0 unless they are refused
+abbrev pub isZero : ℤ → Bool
+isZero (pos n) = eqb n 0
+isZero (negsuc n) = false
+
+abbrev pub accepted : Event → Bool
+accepted e = isZero (e .code)
+
+-- THE RANK
+
+-- is thread i ready at rank p
+abbrev pub readyAt : ℕ → State → ℕ → Bool
+readyAt p s i = inLine (ready p) (at (s .threads) i)
+
+-- "one rank's set of ready threads": a 1 for each thread that is in it, by number, and a 0 for each other
+abbrev pub readySet : ℕ → State → List ℕ
+readySet p s = map (λ t. bit (inLine (ready p) t)) (s .threads)
+
+-- "is the same after each step"
+abbrev pub sameSet : ℕ → Event → Bool
+sameSet p e = sameBytes (readySet p (e .after)) (readySet p (e .before))
+
+-- "the sum of the threads' turns"
+abbrev pub sumTurns : ℕ → List Thread → ℕ
+sumTurns p [] = 0
+sumTurns p (t ∷ ts) = (if inLine (ready p) t then t .turn else 0) + sumTurns p ts
+
+-- THE TICKS
+
+-- "An accepted tick is charged [..], to nobody while the lock is on; a refused one to nobody."
+abbrev pub charges : Event → Bool
+charges e = isTick (kind (e .asked)) && accepted e && eqb (e .before .lock) 0
+
+-- "to the thread that was running"
+abbrev pub chargedTo : ℕ → Event → Bool
+chargedTo i e = charges e && eqb (e .before .running) i
+
+-- "the ticks charged to that rank": to a thread of its ready set
+abbrev pub chargedRank : ℕ → Event → Bool
+chargedRank p e = charges e && readyAt p (e .before) (e .before .running)
+
+-- THE THREADS' OWN DOING
+
+-- "yields", "is named in [a] change of settings": a thread of the rank, if the request is accepted
+abbrev pub disturbs : ℕ → State → Kind → Bool
+disturbs p s tick = false
+disturbs p s yield = readyAt p s (s .running)
+disturbs p s (change i) = readyAt p s i
+disturbs p s other = false
+
+-- "none of them yields and none is named in an accepted change of settings"
+abbrev pub undisturbed : ℕ → Event → Bool
+undisturbed p e = not (accepted e && disturbs p (e .before) (kind (e .asked)))

@@ -1,0 +1,160 @@
+-- A step neither adds nor takes away a record, and with lock above 0 after it the running thread is the one before: every operation
+-- is moves and edits, and only settling with lock 0 says anew who runs. Assumes nothing.
+use mathlib.Core.Bool.{Bool, true, false, not, _||_}
+use mathlib.Core.Path.{_≡_, refl, ap, sym, _∙_}
+use mathlib.Core.List.{List}
+use Prim.Native.Nat.{ℕ, zero, suc}
+use borrow.Author.Tests.{eqb-true}
+use lib.Dec.{eqb, leb}
+use lib.ListN.{length, set, length-set}
+use Rattle.rules.specs.Basic.{if_then_else_}
+use Rattle.rules.specs.Board.{Board}
+use Rattle.rules.specs.State.{State, On, at, withThreads, withSems, withLock, edit}
+use Rattle.rules.specs.Lines.{Line, first, move, settle}
+use Rattle.rules.specs.Waiting.{Step, accept, endWait, serve, block, mustWait}
+use Rattle.rules.specs.Threads.{doYield, doCreate, deleted, doDelete, doSet, doSuspend, doResume, doDelay, breakOff, doCancel}
+use Rattle.rules.specs.Mail.{delivered, doSend, doSendFromInterrupt, emptied, doReceive}
+use Rattle.rules.specs.Semaphores.{doMake, doDrop, doPend, doAbort, posted, doPost, doPostFromInterrupt}
+use Rattle.rules.specs.Time.{charge, charged, countDown, timeouts, doLock, doUnlock, doTick, doOutcome}
+use Rattle.rules.specs.Steps.{step}
+use Rattle.rules.specs.declared.Thread.{Thread}
+use Rattle.rules.specs.declared.Sem.{Sem}
+use Rattle.rules.specs.declared.Outcome as Outcomes
+use Rattle.rules.specs.declared.Answer.{Answer}
+use Rattle.rules.specs.declared.Request.{Request}
+use Rattle.rules.specs.declared.Request.the-variants.{
+  Yield,
+  Create,
+  Delete,
+  Set,
+  Suspend,
+  Resume,
+  Delay,
+  Cancel,
+  Send,
+  SendFromInterrupt,
+  Receive,
+  Make,
+  Drop,
+  Pend,
+  Abort,
+  Post,
+  PostFromInterrupt,
+  Lock,
+  Unlock,
+  Tick,
+  Outcome,
+}
+use Rattle.laws.proofs.Split.{if-case}
+use Rattle.laws.proofs.Members.{length-edit}
+use Rattle.laws.proofs.Moves.{length-move}
+
+-- THREADS
+
+pub Long : List Thread → List Thread → Type 0
+Long ts us = length us ≡ length ts
+
+long-same : (ts : List Thread) → Long ts ts
+unfolding Long
+long-same ts = refl
+
+long-if : (ts : List Thread) (b : Bool) (us vs : List Thread) → Long ts us → Long ts vs → Long ts (if b then us else vs)
+long-if ts true us vs p q = p
+long-if ts false us vs p q = q
+
+long-move : (ts us : List Thread) (i : ℕ) (g : Thread → Thread) → Long ts us → Long ts (move i g us)
+unfolding Long
+long-move ts us i g p = length-move i g us ∙ p
+
+long-edit : (ts us : List Thread) (i : ℕ) (g : Thread → Thread) → Long ts us → Long ts (edit i g us)
+unfolding Long
+long-edit ts us i g p = length-edit us i g ∙ p
+
+long-serve : (ts us : List Thread) (n : ℕ) (l : Line) (o : Outcomes.Outcome) → Long ts us → Long ts (serve n l o us)
+unfolding serve endWait
+long-serve ts us zero l o p = p
+long-serve ts us (suc n) l o p = long-serve ts (endWait (first l us) o 0 us) n l o (long-move ts us _ _ p)
+
+long-timeouts : (ts us : List Thread) (n : ℕ) → Long ts us → Long ts (timeouts n us)
+unfolding timeouts countDown endWait
+long-timeouts ts us zero p = p
+long-timeouts ts us (suc n) p = let q = long-timeouts ts us n p in search (long-if, long-move, long-edit)
+
+-- STATES
+
+pub record Framed (s s' : State) : Type 0 where
+  pub threads : Long (s .threads) (s' .threads)
+  pub sems : length (s' .sems) ≡ length (s .sems)
+  pub running : (s' .lock ≡ 0 → ⊥) → s' .running ≡ s .running
+
+framed-threads : (s : State) (us : List Thread) → Long (s .threads) us → Framed s (withThreads us s)
+framed-threads s us h = record { threads = h; sems = refl; running = λ n. refl }
+
+framed-sem : (s : State) (us : List Thread) (k : ℕ) (e : Sem) → Long (s .threads) us → Framed s (withSems (set (s .sems) k e) (withThreads us s))
+framed-sem s us k e h = record { threads = h; sems = length-set (s .sems) k e; running = λ n. refl }
+
+framed-count : (s : State) (k : ℕ) (e : Sem) → Framed s (withSems (set (s .sems) k e) s)
+framed-count s k e = framed-sem s (s .threads) k e (long-same (s .threads))
+
+framed-lock : (s : State) (n : ℕ) → Framed s (withLock n s)
+unfolding Long
+framed-lock s n = record { threads = refl; sems = refl; running = λ n. refl }
+
+framed-settle : (s s' : State) → Framed s s' → Framed s (settle s')
+unfolding settle
+framed-settle s s' f = if-case (Framed s) (eqb (s' .lock) 0)
+    (λ e. record { threads = f .threads; sems = f .sems; running = λ n. absurd (n (eqb-true (s' .lock) 0 e)) })
+    (λ e. f)
+
+-- STEPS
+
+pub Firm : State → Step → Type 0
+Firm s r = Framed s (r .state)
+
+firm-if : (s : State) (b : Bool) (x y : Step) → Firm s x → Firm s y → Firm s (if b then x else y)
+firm-if s true x y f g = f
+firm-if s false x y f g = g
+
+firm-same : (s : State) (a : Answer) → Firm s (record { state = s; answer = a })
+unfolding Firm Long
+firm-same s a = record { threads = refl; sems = refl; running = λ n. refl }
+
+firm-settle : (s s' : State) (a : Answer) → Framed s s' → Firm s (record { state = settle s'; answer = a })
+unfolding Firm
+firm-settle s s' a f = framed-settle s s' f
+
+ruleset firm = (long-same, long-if, long-move, long-edit, long-serve, long-timeouts, framed-threads, framed-sem, framed-count, framed-lock, firm-if, firm-same, firm-settle)
+
+pub firm-step : (s : State) (q : Request) → Firm s (step s q)
+unfolding step endWait block mustWait doYield doCreate deleted doDelete doSet doSuspend doResume doDelay breakOff doCancel delivered doSend doSendFromInterrupt emptied doReceive doMake doDrop doPend doAbort posted doPost doPostFromInterrupt charge charged doLock doUnlock doTick doOutcome
+firm-step s Yield = search firm depth 8
+firm-step s (Create i p n) = search firm depth 8
+firm-step s (Delete i) = search firm depth 8
+firm-step s (Set i p n) = search firm depth 10
+firm-step s (Suspend i) = search firm depth 10
+firm-step s (Resume i) = search firm depth 10
+firm-step s (Delay n) = search firm depth 8
+firm-step s (Cancel i) = search firm depth 8
+firm-step s (Send i n x) = search firm depth 10
+firm-step s (SendFromInterrupt i x) = search firm depth 10
+firm-step s (Receive n) = search firm depth 10
+firm-step s (Make k n) = search firm depth 8
+firm-step s (Drop k) = search firm depth 8
+firm-step s (Pend k n) = search firm depth 8
+firm-step s (Abort i) = search firm depth 8
+firm-step s (Post k n) = search firm depth 8
+firm-step s (PostFromInterrupt k n) = search firm depth 8
+firm-step s Lock = search firm depth 8
+firm-step s Unlock = search firm depth 8
+firm-step s Tick = search firm depth 8
+firm-step s (Outcome i) = search firm depth 8
+
+-- a step neither adds nor takes away a record
+pub on-kept : (b : Board) (s : State) (q : Request) → On b s → On b (step s q .state)
+unfolding Firm Long
+on-kept b s q o = let f = firm-step s q in record { threads = f .threads ∙ o .threads; sems = f .sems ∙ o .sems }
+
+-- "With lock above 0 it doesn't change."
+pub running-kept : (s : State) (q : Request) → (step s q .state .lock ≡ 0 → ⊥) → step s q .state .running ≡ s .running
+unfolding Firm
+running-kept s q n = firm-step s q .running n

@@ -1,0 +1,12 @@
+-- Soundness is kept.
+pub mod Fit
+pub mod Changes
+pub mod Waits
+pub mod Settled
+pub mod Safe
+pub mod Threads
+pub mod Mail
+pub mod Semaphores
+pub mod Time
+pub mod Steps
+pub mod Frame

@@ -1,0 +1,1 @@
+// A step keeps a table sound. There is no code here.

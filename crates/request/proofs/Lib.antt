@@ -1,0 +1,2 @@
+-- What is written is read back.
+pub mod Back

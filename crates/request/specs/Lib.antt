@@ -1,0 +1,2 @@
+-- How a request is written.
+pub mod Written
