@@ -147,7 +147,7 @@ sound-full : (n : ℕ) (t : Thread) → isReady t ≡ true → SoundThread t →
 sound-full n t r o =
     let w = ready-parts t r in
     rw (rest-counter (t .turn) (t .wait) (w .2)) (rest-sound (withPlace n t) (t .turn) (o .priority) (o .turn) (o .empty)
-      (o .parcel (rest-sending (t .wait) (w .2))) (λ e p. (o .turn .0, omega arith)) (λ e p. refl) (λ e. absurd (clash (rest-ready (t .turn) t r) e)))
+    (o .parcel (rest-sending (t .wait) (w .2))) (λ e p. (o .turn .0, omega arith)) (λ e p. refl) (λ e. absurd (clash (rest-ready (t .turn) t r) e)))
 
 pub fit-tail : (a : Asks) (i n : ℕ) (t : Thread) → (line t ≡ nowhere → n ≡ 0) → Fit a i t → Fit a i (filled (withPlace n t))
 fit-tail a i n t h f = if-case (Fit a i) (isReady t)

@@ -130,7 +130,7 @@ module _ (s : State) (h : Unsettled s) where
   unfolding settle
   settled = if-case Sound (eqb (s .lock) 0)
       (λ e. let t : Top (s .threads) (top (s .threads)) = top-highest (s .threads) (h .threads .lines) (h .threads .each 0 .ready refl)
-        (λ i r. h .threads .each i .sound (ready-used (at (s .threads) i) r) .priority) in runner (top (s .threads)) (t .ready) (λ z. t))
+      (λ i r. h .threads .each i .sound (ready-used (at (s .threads) i) r) .priority) in runner (top (s .threads)) (t .ready) (λ z. t))
       (λ e. let n : s .lock ≢ 0 = eqb-false (s .lock) 0 e in runner (s .running) (h .threads .each (s .running) .ready (simp reflect (λ q. (refl, omega arith)))) (λ z. absurd (n z)))
 
 -- A STEP OF THREADS

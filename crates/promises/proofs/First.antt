@@ -42,7 +42,7 @@ refusal-is Failed why e = let z : _≡_ {A = ℕ} 0 1 = cc in absurd (omega arit
 refusal-is (Refused w) why e = cc
 
 -- a table and an area that are let through
-served : (b : Board) (t r a : List ℕ) → SoundTable b t → length a ≡ areaLength → door b t r a ≡ serveDecoded b t (decodeRequest r)
+pub served : (b : Board) (t r a : List ℕ) → SoundTable b t → length a ≡ areaLength → door b t r a ≡ serveDecoded b t (decodeRequest r)
 unfolding door
 served b t r a σ e = rw (eq-eqb (length a) areaLength e, tested-table b t .1 σ)
 

@@ -34,6 +34,9 @@ delay n = ask 6 0 0 n 0
 abbrev send : ℕ → ℕ → ℕ → List ℕ
 send i n x = ask 8 i 0 n x
 
+abbrev receive : ℕ → List ℕ
+receive n = ask 10 0 0 n 0
+
 abbrev make : ℕ → ℕ → List ℕ
 make k n = ask 11 k 0 n 0
 
@@ -62,8 +65,12 @@ pub record Seen : Type 0 where
   pub value : ℕ
   pub running : ℕ
 
+-- done, with a value
+abbrev gives : ℕ → ℕ → Seen
+gives v r = record { code = pos 0; value = v; running = r }
+
 abbrev done : ℕ → Seen
-done r = record { code = pos 0; value = 0; running = r }
+done r = gives 0 r
 
 abbrev blocked : ℕ → Seen
 blocked r = record { code = pos 1; value = 0; running = r }
@@ -142,6 +149,20 @@ table =
     ∷ case (create 1 5 2 ∷ lockOn ∷ lockOn ∷ create 2 9 2 ∷ unlock ∷ unlock ∷ []) (done 1 ∷ done 1 ∷ done 1 ∷ done 1 ∷ done 1 ∷ done 2 ∷ [])
     -- "(12) Delete 0 is −5, Delete 16 is −1"
     ∷ case (delete 0 ∷ delete 16 ∷ delete 15 ∷ []) (minus 5 0 ∷ minus 1 0 ∷ minus 1 0 ∷ [])
+    -- what the twelve leave open. A timed-out waiter is out of its line, and the next unit goes to the waiter behind it
+    ∷ case
+    (make 0 0 ∷ create 1 5 5 ∷ pend 0 1 ∷ create 2 9 5 ∷ pend 0 100000 ∷ tick ∷ outcome 1 ∷ post 0 1 ∷ outcome 2 ∷ [])
+    (done 0 ∷ done 1 ∷ blocked 0 ∷ done 2 ∷ blocked 0 ∷ done 1 ∷ minus 5 1 ∷ done 2 ∷ done 2 ∷ [])
+    -- "Pend: with count above 0 takes one and the value is what is left"
+    ∷ case (make 0 2 ∷ pend 0 0 ∷ pend 0 0 ∷ pend 0 0 ∷ []) (done 0 ∷ gives 1 0 ∷ done 0 ∷ minus 5 0 ∷ [])
+    -- turns go round a second time as the first
+    ∷ case
+    (create 1 5 1 ∷ create 2 5 2 ∷ tick ∷ tick ∷ tick ∷ tick ∷ tick ∷ tick ∷ [])
+    (done 1 ∷ done 1 ∷ done 2 ∷ done 2 ∷ done 1 ∷ done 2 ∷ done 2 ∷ done 1 ∷ [])
+    -- Receive gives the mailbox's value, then those of the waiting senders in line order: priority 7 came first, priority 9 second
+    ∷ case
+    (create 1 5 5 ∷ create 2 7 5 ∷ send 1 0 40 ∷ send 1 100000 41 ∷ create 3 9 5 ∷ send 1 100000 42 ∷ receive 0 ∷ outcome 3 ∷ suspend 2 ∷ receive 0 ∷ [])
+    (done 1 ∷ done 2 ∷ done 2 ∷ blocked 1 ∷ done 3 ∷ blocked 1 ∷ gives 40 2 ∷ blocked 2 ∷ done 1 ∷ gives 41 3 ∷ [])
     ∷ []
 
 -- WHAT IS GIVEN, WHAT IS EXPECTED

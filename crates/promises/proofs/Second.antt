@@ -1,0 +1,94 @@
+-- Demand 2 holds: a call leaves a sound table as it is or makes of it the table of the request's step, a step keeps a state sound, and
+-- a state and its table determine each other. Assumes nothing.
+use mathlib.Core.Bool.{Bool, true, false, _&&_}
+use mathlib.Core.Path.{_≡_, refl, ap, sym, subst, _∙_}
+use mathlib.Core.List.{List, [], _∷_}
+use Prim.Native.Nat.{ℕ}
+use lib.Dec.{eqb}
+use borrow.Author.Tests.{eq-eqb}
+use lib.ListN.{length}
+use Rattle.rules.specs.Basic.{if_then_else_}
+use Rattle.rules.specs.Board.{Board, printer}
+use Rattle.rules.specs.State.{State, On}
+use Rattle.rules.specs.Table.{encode, decode}
+use Rattle.rules.specs.Answers.{areaLength}
+use Rattle.rules.specs.Requests.{decodeRequest}
+use Rattle.rules.specs.Sound.{Sound, SoundTable}
+use Rattle.rules.specs.Test.{soundTable}
+use Rattle.rules.specs.Waiting.{Step}
+use Rattle.rules.specs.Steps.{step}
+use Rattle.rules.specs.Door.{Doored, serveDecoded, door, freshTable}
+use Rattle.rules.specs.declared.Request.{Request}
+use Rattle.rules.specs.declared.Decoded.{Decoded}
+use Rattle.rules.specs.declared.Decoded.the-variants.{Asked, Bad}
+use Rattle.laws.proofs.Split.{is, isnt, test}
+use Rattle.laws.proofs.Tested.{tested-table, fresh-sound}
+use Rattle.layout.proofs.Records.{length-encode}
+use Rattle.layout.proofs.RoundTrip.{on-decode, decode-encode}
+use Rattle.preservation.proofs.Frame.{on-kept, running-kept}
+use Rattle.preservation.proofs.Steps.{kept}
+use Rattle.promises.specs.Demand2.{RunsFirst, Ruled, Handed, tableAfter, Demand2}
+use Rattle.promises.proofs.First.{served}
+
+-- the table of a sound state is sound
+pub encode-sound : (b : Board) (s : State) → On b s → Sound s → SoundTable b (encode s)
+encode-sound b s on σ = record { long = length-encode on; meaning = ap encode (sym (decode-encode on)); state = rw (decode-encode on) σ }
+
+-- what a call makes of a sound table
+pub data Next (b : Board) (t after : List ℕ) : Type 0 where
+  stays : after ≡ t → Next b t after
+  steps : (q : Request) → after ≡ encode (step (decode b t) q .state) → Next b t after
+
+module _ (b : Board) (t : List ℕ) (σ : SoundTable b t) where
+  decoded : (d : Decoded) → Next b t (serveDecoded b t d .table)
+  unfolding serveDecoded
+  decoded (Asked q) = steps q refl
+  decoded Bad = stays refl
+
+  pub next : (r a : List ℕ) → Next b t (door b t r a .table)
+  unfolding door
+  next r a = elim (test (eqb (length a) areaLength && soundTable b t)) [
+    | is e ↦ rw e (decoded (decodeRequest r))
+    | isnt e ↦ rw e (stays refl)
+  ]
+
+  -- the state after a step, on the board and sound
+  after-on : (q : Request) → On b (step (decode b t) q .state)
+  after-on q = on-kept b (decode b t) q (on-decode b t)
+
+  after-sound : {u : List ℕ} → Next b t u → SoundTable b u
+  after-sound (stays e) = rw e σ
+  after-sound (steps q e) = rw e (encode-sound b (step (decode b t) q .state) (after-on q) (kept (decode b t) q (σ .state)))
+
+  after-locked : {u : List ℕ} → Next b t u → (decode b u .lock ≡ 0 → ⊥) → decode b u .running ≡ decode b t .running
+  after-locked (stays e) h = ap (λ x. decode b x .running) e
+  after-locked (steps q e) h =
+      let d : decode b _ ≡ step (decode b t) q .state = ap (decode b) e ∙ decode-encode (after-on q) in
+      ap (λ s. s .running) d ∙ running-kept (decode b t) q (λ z. h (ap (λ s. s .lock) d ∙ z))
+
+runs-first : (s : State) → Sound s → s .lock ≡ 0 → RunsFirst s
+runs-first s σ z = record { ready = σ .runs; first = σ .leads z; highest = σ .highest z }
+
+ruled : (b : Board) (t r a : List ℕ) → SoundTable b t → Ruled b t r a (door b t r a)
+unfolding serveDecoded
+ruled b t r a σ =
+    let n = next b t σ r a in
+    let u = after-sound b t σ n in
+    record {
+      byRule = λ e q k. served b t r a σ e ∙ rw k;
+      sound = u;
+      unlocked = runs-first (decode b (door b t r a .table)) (u .state);
+      locked = after-locked b t σ n;
+    }
+
+run-sound : (b : Board) (t : List ℕ) (hs : List Handed) → SoundTable b t → SoundTable b (tableAfter b t hs)
+unfolding tableAfter
+run-sound b t [] σ = σ
+run-sound b t (h ∷ hs) σ = run-sound b (door b t (h .request) (h .area) .table) hs (after-sound b t σ (next b t σ (h .request) (h .area)))
+
+pub second : Demand2
+second = record {
+  ruled = ruled;
+  stays = run-sound;
+  fresh = λ hs. run-sound printer (freshTable printer) hs (tested-table printer (freshTable printer) .0 fresh-sound);
+}

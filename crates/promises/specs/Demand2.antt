@@ -1,0 +1,53 @@
+-- DEMAND 2. "For every request, interrupt and tick, the answer, the next table and the running thread are those of the RMP manual's
+-- rules as document 01 completes them."
+-- The rules are the definitions of crate `rules`; the kernel's code is proved to give what they say. Here is what they then keep true.
+use mathlib.Core.Bool.{true}
+use mathlib.Core.Path.{_≡_}
+use mathlib.Core.List.{List, [], _∷_}
+use Prim.Native.Nat.{ℕ, _≤_}
+use lib.ListN.{length}
+use Rattle.rules.specs.Board.{Board, printer}
+use Rattle.rules.specs.State.{State, at, caller, isReady}
+use Rattle.rules.specs.Table.{encode, decode}
+use Rattle.rules.specs.Answers.{areaLength}
+use Rattle.rules.specs.Requests.{decodeRequest}
+use Rattle.rules.specs.Sound.{SoundTable}
+use Rattle.rules.specs.Waiting.{Step}
+use Rattle.rules.specs.Steps.{step}
+use Rattle.rules.specs.Door.{Doored, answered, door, freshTable}
+use Rattle.rules.specs.declared.Request.{Request}
+use Rattle.rules.specs.declared.Decoded.the-variants.{Asked}
+
+-- "the running thread is the first of the highest non-empty line"
+pub record RunsFirst (s : State) : Type 0 where
+  pub ready : isReady (caller s) ≡ true
+  pub first : caller s .place ≡ 1
+  pub highest : (i : ℕ) → isReady (at (s .threads) i) ≡ true → at (s .threads) i .priority ≤ caller s .priority
+
+-- what the door makes of a sound table t, whatever the record and the area are
+pub record Ruled (b : Board) (t r a : List ℕ) (d : Doored) : Type 0 where
+  -- the answer and the next table are those of the request's rule,
+  pub byRule : length a ≡ areaLength → (q : Request) → decodeRequest r ≡ Asked q
+      → d ≡ answered (encode (step (decode b t) q .state)) (step (decode b t) q .answer)
+  -- the next table is sound again,
+  pub sound : SoundTable b (d .table)
+  -- "with lock 0, the running thread is the first of the highest non-empty line;"
+  pub unlocked : decode b (d .table) .lock ≡ 0 → RunsFirst (decode b (d .table))
+  -- "with lock above 0 it doesn't change."
+  pub locked : (decode b (d .table) .lock ≡ 0 → ⊥) → decode b (d .table) .running ≡ decode b t .running
+
+-- what is handed to the door with a table
+pub record Handed : Type 0 where
+  pub request : List ℕ
+  pub area : List ℕ
+
+-- the table after a run, in which each call finds the table that the one before it leaves
+unfoldable pub tableAfter : Board → List ℕ → List Handed → List ℕ
+tableAfter b t [] = t
+tableAfter b t (h ∷ hs) = tableAfter b (door b t (h .request) (h .area) .table) hs
+
+pub record Demand2 : Type 0 where
+  pub ruled : (b : Board) (t r a : List ℕ) → SoundTable b t → Ruled b t r a (door b t r a)
+  -- a run of any length from a sound table stays sound, and so does one from a fresh table
+  pub stays : (b : Board) (t : List ℕ) (hs : List Handed) → SoundTable b t → SoundTable b (tableAfter b t hs)
+  pub fresh : (hs : List Handed) → SoundTable printer (tableAfter printer (freshTable printer) hs)
