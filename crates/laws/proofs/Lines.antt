@@ -3,9 +3,9 @@ use mathlib.Core.Bool.{Bool, true, false, not, _&&_}
 use mathlib.Core.Path.{_≡_, refl, ap, sym, _∙_}
 use Prim.Native.Nat.{ℕ}
 use lib.Dec.{eqb}
-use borrow.Author.Tests.{eqb-true, eq-eqb}
+use borrow.Author.Tests.{eqb-true, eq-eqb, not-false}
 use Rattle.rules.specs.Basic.{if_then_else_}
-use Rattle.rules.specs.State.{waiting, isReady, withPlace, withCounter, withCounterOf}
+use Rattle.rules.specs.State.{waiting, isReady, withPlace, withCounter, withCounterOf, withSuspended, withSettings}
 use Rattle.rules.specs.Lines.{Line, nowhere, ready, waiters, senders, same, waitLine, line, inLine, filled}
 use Rattle.rules.specs.declared.Thread.{Thread}
 use Rattle.rules.specs.declared.Wait.{Wait}
@@ -130,3 +130,28 @@ line-filled t = filled-field line t (line-counter (t .turn) t)
 
 pub ready-filled : (t : Thread) → isReady (filled t) ≡ isReady t
 ready-filled t = filled-field isReady t (ready-counter (t .turn) t)
+
+-- new settings, unless a ready thread gets another priority
+pub line-settings : (p n : ℕ) (t : Thread) → isReady t && not (eqb (t .priority) p) ≡ false → line (withSettings p n t) ≡ line t
+line-settings p n t e = go (t .used) (t .suspended) (t .wait) (t .priority) e
+  where
+    go : (u s : Bool) (w : Wait) (q : ℕ) → u && not s && not (waiting w) && not (eqb q p) ≡ false → _≡_ {A = Line} (if u then waitLine w s p else nowhere) (if u then waitLine w s q else nowhere)
+    go false s w q e = refl
+    go true true (Nothing n) q e = refl
+    go true false (Nothing n) q e = ap ready (sym (eqb-true q p (not-false (eqb q p) e)))
+    go true s (Delay n) q e = refl
+    go true s (Receive n) q e = refl
+    go true s (Send k n) q e = refl
+    go true s (Semaphore k n) q e = refl
+
+-- a suspension, where the thread waits
+pub line-suspended : (b : Bool) (t : Thread) → waiting (t .wait) ≡ true → line (withSuspended b t) ≡ line t
+line-suspended b t e = go (t .used) (t .suspended) (t .wait) e
+  where
+    go : (u s : Bool) (w : Wait) → waiting w ≡ true → _≡_ {A = Line} (if u then waitLine w b (t .priority) else nowhere) (if u then waitLine w s (t .priority) else nowhere)
+    go false s w e = refl
+    go true s (Nothing n) e = absurd (clash e refl)
+    go true s (Delay n) e = refl
+    go true s (Receive n) e = refl
+    go true s (Send k n) e = refl
+    go true s (Semaphore k n) e = refl

@@ -1,14 +1,14 @@
 -- Which changes keep a thread what its table asks: each is a word on the one record that changes. A thread that moves has place 0 until
 -- it joins its line, so that nothing is asked of a ready one's counter before. Assumes nothing.
 use mathlib.Core.Bool.{Bool, true, false, not, _&&_}
-use mathlib.Core.Path.{_≡_, refl, ap, sym, _∙_}
+use mathlib.Core.Path.{_≡_, refl, ap, _∙_}
 use mathlib.Core.Logic.{_≢_}
-use Prim.Native.Nat.{ℕ, zero, suc, pred, _≤_, _<_}
+use Prim.Native.Nat.{ℕ, _≤_}
 use native.Mathlib.Omega.{arith}
 use Rattle.rules.specs.Basic.{if_then_else_}
 use Rattle.rules.specs.Board.{topPriority, mostTicks}
-use Rattle.rules.specs.State.{free, counterOf, withCounterOf, waiting, delaying, receiving, sending, isReady, withPlace, withCounter, withWait, withSuspended, withMail, withSettings, withOutcome}
-use Rattle.rules.specs.Lines.{nowhere, ready, line, waitLine, filled}
+use Rattle.rules.specs.State.{free, counterOf, withCounterOf, waiting, delaying, receiving, sending, isReady, withPlace, withCounter, withWait, withSuspended, withMail, withSettings}
+use Rattle.rules.specs.Lines.{nowhere, ready, line, waitLine}
 use Rattle.rules.specs.Waiting.{ended, begun}
 use Rattle.rules.specs.Threads.{created, stopped}
 use Rattle.rules.specs.Sound.{SoundThread}
@@ -21,11 +21,13 @@ use Rattle.laws.proofs.Split.{clash, and-off}
 use Rattle.laws.proofs.Lines.{line-counter, ready-counter}
 use Rattle.preservation.proofs.Fit.{Asks, mayStand, Fit, full-used, ready-parts, rest-ready, rest-sending, rest-counter, rest-sound, sound-place}
 
-pub fit-used : (a : Asks) (i : ℕ) (t : Thread) → t .used ≡ true → SoundThread t → (i ≡ 0 → t .priority ≡ 0) → (a .bound i ≡ true → isReady t ≡ true)
+pub fit-used : {a : Asks} {i : ℕ} {t : Thread} → t .used ≡ true → SoundThread t → (i ≡ 0 → t .priority ≡ 0) → (a .bound i ≡ true → isReady t ≡ true)
     → mayStand a i (line t) ≡ true → (a .full i ≡ true → t .full ≡ true) → Fit a i t
-fit-used a i t u o p r l h = record { blank = λ e. absurd (clash u e); sound = λ e. o; init = p; ready = r; stands = l; full = h }
+fit-used u own p r l h = record { blank = λ e. absurd (clash u e); sound = λ e. own; init = p; ready = r; stands = l; full = h }
 
--- no priority and no suspension keeps a thread out of its line
+-- WHERE IT STANDS
+
+-- no priority and no suspension keeps a thread from where it stands
 restand : (a : Asks) (i : ℕ) (u s s' : Bool) (w : Wait) (p p' : ℕ) → mayStand a i (if u then waitLine w s p else nowhere) ≡ true
     → mayStand a i (if u then waitLine w s' p' else nowhere) ≡ true
 restand a i false s s' w p p' e = refl
@@ -36,13 +38,21 @@ restand a i true s s' (Receive n) p p' e = refl
 restand a i true s s' (Send k n) p p' e = e
 restand a i true s s' (Semaphore k n) p p' e = e
 
--- a thread that waits for nothing stands in no line that is asked for
+-- a thread that waits for nothing may stand where it does
 rest-stands : (a : Asks) (i n : ℕ) (t : Thread) → mayStand a i (line (withWait (Nothing n) t)) ≡ true
-rest-stands a i n t = restand a i (t .used) true (t .suspended) (Nothing n) 0 (t .priority) (none (t .used))
+rest-stands a i n t = go (t .used) (t .suspended)
   where
-    none : (u : Bool) → mayStand a i (if u then nowhere else nowhere) ≡ true
-    none true = refl
-    none false = refl
+    go : (u s : Bool) → mayStand a i (if u then (if s then nowhere else ready (t .priority)) else nowhere) ≡ true
+    go false s = refl
+    go true true = refl
+    go true false = refl
+
+-- WHAT IS SAID OF ITS OWN RECORD
+
+-- a thread that waits for nothing any more, on its way to its line
+rest-anew : (t : Thread) → t .place ≡ 0 → t .priority ≤ topPriority → (1 ≤ t .turn) × (t .turn ≤ mostTicks) → (t .full ≡ false → t .value ≡ 0)
+    → ((t .outcome ≡ Done → ⊥) → t .parcel ≡ 0) → SoundThread (withWait (Nothing 0) t)
+rest-anew t z p q v x = rest-sound t 0 p q v x (λ r e. absurd (omega arith)) (λ r e. absurd (omega arith)) (λ r. refl)
 
 off-wait : (t : Thread) → waiting (t .wait) ≡ true → isReady t ≡ false
 off-wait t e = rw e (and-off (t .used && not (t .suspended)))
@@ -51,32 +61,42 @@ off-wait t e = rw e (and-off (t .used && not (t .suspended)))
 wait-sound : (t : Thread) (w : Wait) → waiting w ≡ true → t .priority ≤ topPriority → (1 ≤ t .turn) × (t .turn ≤ mostTicks) → (t .full ≡ false → t .value ≡ 0)
     → (delaying w ≡ true → 1 ≤ counterOf w) → counterOf w ≤ mostTicks → (receiving w ≡ true → t .full ≡ false) → t .outcome ≡ NoneYet
     → (sending w ≡ false → (t .outcome ≡ Done → ⊥) → t .parcel ≡ 0) → SoundThread (withWait w t)
-wait-sound t w e p n v d c b y x = record {
+wait-sound t w e p q v d c b y x = record {
   priority = p;
-  turn = n;
+  turn = q;
   first = λ r. absurd (clash r (off-wait (withWait w t) e));
   later = λ r. absurd (clash r (off-wait (withWait w t) e));
   delay = d;
   timed = λ r. c;
-  idle = λ r q. absurd (clash e q);
+  idle = λ r n. absurd (clash e n);
   receiver = b;
   empty = v;
   outcome = λ r. y;
   parcel = x;
 }
 
-sound-resumed : (t : Thread) → SoundThread t → (isReady (withSuspended false t) ≡ true → t .place ≡ 1 → (1 ≤ counterOf (t .wait)) × (counterOf (t .wait) ≤ t .turn))
+-- the same wait with another counter
+sound-counted : (n : ℕ) (w : Wait) (t : Thread) → waiting w ≡ true → 1 ≤ n → n ≤ mostTicks → SoundThread (withWait w t) → SoundThread (withWait (withCounterOf n w) t)
+sound-counted n (Nothing m) t e l h own = absurd (clash e refl)
+sound-counted n (Delay m) t e l h own = wait-sound t (Delay n) refl (own .priority) (own .turn) (own .empty) (λ q. l) h (own .receiver) (own .outcome refl) (own .parcel)
+sound-counted n (Receive m) t e l h own = wait-sound t (Receive n) refl (own .priority) (own .turn) (own .empty) (λ q. l) h (own .receiver) (own .outcome refl) (own .parcel)
+sound-counted n (Send k m) t e l h own = wait-sound t (Send k n) refl (own .priority) (own .turn) (own .empty) (λ q. l) h (own .receiver) (own .outcome refl) (own .parcel)
+sound-counted n (Semaphore k m) t e l h own = wait-sound t (Semaphore k n) refl (own .priority) (own .turn) (own .empty) (λ q. l) h (own .receiver) (own .outcome refl) (own .parcel)
+
+sound-resumed : {t : Thread} → (isReady (withSuspended false t) ≡ true → t .place ≡ 1 → (1 ≤ counterOf (t .wait)) × (counterOf (t .wait) ≤ t .turn))
     → (isReady (withSuspended false t) ≡ true → 2 ≤ t .place → counterOf (t .wait) ≡ t .turn) → (waiting (t .wait) ≡ false → counterOf (t .wait) ≡ 0)
-    → SoundThread (withSuspended false t)
-sound-resumed t o one two none = search
+    → SoundThread t → SoundThread (withSuspended false t)
+sound-resumed {t} one two none own = search
 
-sound-settings : (p n : ℕ) (t : Thread) → SoundThread t → p ≤ topPriority → (1 ≤ n) × (n ≤ mostTicks)
+sound-settings : (p n : ℕ) {t : Thread} → p ≤ topPriority → (1 ≤ n) × (n ≤ mostTicks)
     → (isReady t ≡ true → t .place ≡ 1 → (1 ≤ counterOf (t .wait)) × (counterOf (t .wait) ≤ n)) → (isReady t ≡ true → 2 ≤ t .place → counterOf (t .wait) ≡ n)
-    → SoundThread (withSettings p n t)
-sound-settings p n t o h l one two = search
+    → SoundThread t → SoundThread (withSettings p n t)
+sound-settings p n {t} h l one two own = search
 
-sound-mail : (b : Bool) (x : ℕ) (t : Thread) → SoundThread t → (receiving (t .wait) ≡ true → b ≡ false) → (b ≡ false → x ≡ 0) → SoundThread (withMail b x t)
-sound-mail b x t o p q = search
+sound-mail : (b : Bool) (x : ℕ) {t : Thread} → (receiving (t .wait) ≡ true → b ≡ false) → (b ≡ false → x ≡ 0) → SoundThread t → SoundThread (withMail b x t)
+sound-mail b x {t} p q own = search
+
+-- THE CHANGES
 
 -- what thread i's wait has to be like when it begins, with its parcel
 pub record Begins (a : Asks) (i : ℕ) (t : Thread) (w : Wait) (x : ℕ) : Type 0 where
@@ -87,35 +107,9 @@ pub record Begins (a : Asks) (i : ℕ) (t : Thread) (w : Wait) (x : ℕ) : Type 
   pub parcel : sending w ≡ false → x ≡ 0
   pub stands : mayStand a i (waitLine w (t .suspended) (t .priority)) ≡ true
 
--- the same wait with another counter
-sound-counted : (n : ℕ) (w : Wait) (t : Thread) → SoundThread (withWait w t) → waiting w ≡ true → 1 ≤ n → n ≤ mostTicks → SoundThread (withWait (withCounterOf n w) t)
-sound-counted n (Nothing m) t s e l h = absurd (clash e refl)
-sound-counted n (Delay m) t s e l h = wait-sound t (Delay n) refl (s .priority) (s .turn) (s .empty) (λ q. l) h (s .receiver) (s .outcome refl) (s .parcel)
-sound-counted n (Receive m) t s e l h = wait-sound t (Receive n) refl (s .priority) (s .turn) (s .empty) (λ q. l) h (s .receiver) (s .outcome refl) (s .parcel)
-sound-counted n (Send k m) t s e l h = wait-sound t (Send k n) refl (s .priority) (s .turn) (s .empty) (λ q. l) h (s .receiver) (s .outcome refl) (s .parcel)
-sound-counted n (Semaphore k m) t s e l h = wait-sound t (Semaphore k n) refl (s .priority) (s .turn) (s .empty) (λ q. l) h (s .receiver) (s .outcome refl) (s .parcel)
-
-module _ (a : Asks) (i : ℕ) (t : Thread) (f : Fit a i t) where
-  -- on its way to the tail of its line
-  pub fit-lifted : Fit a i (withPlace 0 t)
-  fit-lifted = record {
-    blank = λ e. ap (withPlace 0) (f .blank e);
-    sound = λ e. sound-place 0 t (f .sound e) (λ r p. absurd (omega arith)) (λ r p. absurd (omega arith));
-    init = f .init;
-    ready = f .ready;
-    stands = f .stands;
-    full = f .full;
-  }
-
-  -- where the record is free, a thread is created
-  pub fit-created : t .used ≡ false → (p n : ℕ) → i ≢ 0 → p ≤ topPriority → (1 ≤ n) × (n ≤ mostTicks) → Fit a i (created p n)
-  fit-created u p n k h l = fit-used a i (created p n) refl
-      (rest-sound (created p n) 0 h l (λ e. refl) (λ e. refl) (λ r q. absurd (omega arith)) (λ r q. absurd (omega arith)) (λ r. refl))
-      (λ e. absurd (k e)) (λ e. refl) refl (λ e. absurd (clash (full-used a i t f (f .full e)) u))
-
 -- a record becomes free
-pub fit-free : (a : Asks) (i : ℕ) → i ≢ 0 → a .bound i ≡ false → a .full i ≡ false → Fit a i free
-fit-free a i k b h = record {
+pub fit-free : {a : Asks} {i : ℕ} → a .bound i ≡ false → a .full i ≡ false → Fit a i free
+fit-free b h = record {
   blank = λ e. refl;
   sound = λ e. absurd (clash e refl);
   init = λ e. refl;
@@ -124,62 +118,75 @@ fit-free a i k b h = record {
   full = λ e. absurd (clash e h);
 }
 
-module _ (a : Asks) (i : ℕ) (t : Thread) (u : t .used ≡ true) (f : Fit a i t) where
-  s : SoundThread t
-  s = f .sound u
+module _ {a : Asks} {i : ℕ} {t : Thread} (f : Fit a i t) where
+  -- a free record becomes a thread
+  pub fit-created : t .used ≡ false → (p n : ℕ) → i ≢ 0 → p ≤ topPriority → (1 ≤ n) × (n ≤ mostTicks) → Fit a i (created p n)
+  fit-created u p n k h l = fit-used refl (rest-anew (created p n) refl h l (λ e. refl) (λ e. refl))
+      (λ e. absurd (k e)) (λ e. refl) refl (λ e. absurd (clash (full-used f (f .full e)) u))
+
+  -- it is on its way to the tail of its line
+  pub fit-lifted : Fit a i (withPlace 0 t)
+  fit-lifted = record {
+    blank = λ u. ap (withPlace 0) (f .blank u);
+    sound = λ u. sound-place 0 (f .sound u) (λ r e. absurd (omega arith)) (λ r e. absurd (omega arith));
+    init = f .init;
+    ready = f .ready;
+    stands = f .stands;
+    full = f .full;
+  }
+
+module _ {a : Asks} {i : ℕ} {t : Thread} (f : Fit a i t) (u : t .used ≡ true) where
+  own : SoundThread t
+  own = f .sound u
 
   lifted : SoundThread (withPlace 0 t)
-  lifted = fit-lifted a i t f .sound u
+  lifted = fit-lifted f .sound u
 
   -- its wait ends
   pub fit-ended : (o : Outcome) (x : ℕ) → ((o ≡ Done → ⊥) → x ≡ 0) → Fit a i (ended o x (withPlace 0 t))
-  fit-ended o x h = fit-used a i (ended o x (withPlace 0 t)) u
-      (rest-sound (ended o x (withPlace 0 t)) 0 (s .priority) (s .turn) (s .empty) h (λ r p. absurd (omega arith)) (λ r p. absurd (omega arith)) (λ r. refl))
+  fit-ended o x h = fit-used u (rest-anew (ended o x (withPlace 0 t)) refl (own .priority) (own .turn) (own .empty) h)
       (f .init) (λ e. rest-ready 0 t (f .ready e)) (rest-stands a i 0 (ended o x t)) (f .full)
 
-  -- it is suspended, and was ready
+  -- it was ready, and is suspended
   pub fit-stopped : waiting (t .wait) ≡ false → a .bound i ≡ false → Fit a i (stopped (withPlace 0 t))
-  fit-stopped w b = fit-used a i (stopped (withPlace 0 t)) u
-      (rest-sound (stopped (withPlace 0 t)) 0 (s .priority) (s .turn) (s .empty) (s .parcel (rest-sending (t .wait) w)) (λ r p. absurd (omega arith)) (λ r p. absurd (omega arith)) (λ r. refl))
+  fit-stopped w b = fit-used u (rest-anew (stopped (withPlace 0 t)) refl (own .priority) (own .turn) (own .empty) (own .parcel (rest-sending (t .wait) w)))
       (f .init) (λ e. absurd (clash e b)) (rest-stands a i 0 (stopped t)) (f .full)
 
-  -- it is suspended no longer, and waits for nothing
+  -- it waits for nothing, and is suspended no longer
   pub fit-resumed : t .suspended ≡ true → waiting (t .wait) ≡ false → Fit a i (withSuspended false (withPlace 0 t))
-  fit-resumed p w = fit-used a i (withSuspended false (withPlace 0 t)) u
-      (sound-resumed (withPlace 0 t) lifted (λ r q. absurd (omega arith)) (λ r q. absurd (omega arith)) (λ q. s .idle (rw (p, and-off (t .used))) q))
+  fit-resumed p w = fit-used u (sound-resumed (λ r e. absurd (omega arith)) (λ r e. absurd (omega arith)) (own .idle (rw (p, and-off (t .used)))) lifted)
       (f .init) (λ e. absurd (clash p (ready-parts t (f .ready e) .1))) (restand a i (t .used) (t .suspended) false (t .wait) (t .priority) (t .priority) (f .stands)) (f .full)
 
-  -- it is suspended or not, and waits
+  -- it waits, and is suspended or no longer
   pub fit-suspended : (b : Bool) → waiting (t .wait) ≡ true → Fit a i (withSuspended b t)
-  fit-suspended b w = fit-used a i (withSuspended b t) u
-      (wait-sound (withSuspended b t) (t .wait) w (s .priority) (s .turn) (s .empty) (s .delay) (s .timed w) (s .receiver) (s .outcome w) (s .parcel))
+  fit-suspended b w = fit-used u
+      (wait-sound (withSuspended b t) (t .wait) w (own .priority) (own .turn) (own .empty) (own .delay) (own .timed w) (own .receiver) (own .outcome w) (own .parcel))
       (f .init) (λ e. absurd (clash w (ready-parts t (f .ready e) .2))) (restand a i (t .used) (t .suspended) b (t .wait) (t .priority) (t .priority) (f .stands)) (f .full)
 
   -- it has new settings
   pub fit-settings : (p n : ℕ) → i ≢ 0 → p ≤ topPriority → (1 ≤ n) × (n ≤ mostTicks) → Fit a i (withSettings p n (withPlace 0 t))
-  fit-settings p n k h l = fit-used a i (withSettings p n (withPlace 0 t)) u
-      (sound-settings p n (withPlace 0 t) lifted h l (λ r q. absurd (omega arith)) (λ r q. absurd (omega arith)))
+  fit-settings p n k h l = fit-used u (sound-settings p n h l (λ r e. absurd (omega arith)) (λ r e. absurd (omega arith)) lifted)
       (λ e. absurd (k e)) (f .ready) (restand a i (t .used) (t .suspended) (t .suspended) (t .wait) (t .priority) p (f .stands)) (f .full)
 
   -- its mailbox is filled or emptied
   pub fit-mail : (b : Bool) (x : ℕ) → (receiving (t .wait) ≡ true → b ≡ false) → (b ≡ false → x ≡ 0) → (a .full i ≡ true → b ≡ true) → Fit a i (withMail b x t)
-  fit-mail b x p q h = fit-used a i (withMail b x t) u (sound-mail b x t s p q) (f .init) (f .ready) (f .stands) h
+  fit-mail b x p q h = fit-used u (sound-mail b x p q own) (f .init) (f .ready) (f .stands) h
 
-  -- a wait begins
+  -- its wait begins
   pub fit-begun : (w : Wait) (x : ℕ) → a .bound i ≡ false → Begins a i t w x → Fit a i (begun w x (withPlace 0 t))
-  fit-begun w x b g = fit-used a i (begun w x (withPlace 0 t)) u
-      (wait-sound (begun w x (withPlace 0 t)) w (g .waits) (s .priority) (s .turn) (s .empty) (g .delay) (g .timed) (g .receiver) refl (λ e n. g .parcel e))
+  fit-begun w x b g = fit-used u
+      (wait-sound (begun w x (withPlace 0 t)) w (g .waits) (own .priority) (own .turn) (own .empty) (g .delay) (g .timed) (g .receiver) refl (λ e n. g .parcel e))
       (f .init) (λ e. absurd (clash e b)) (rw u (g .stands)) (f .full)
 
   -- a tick less is left of its wait
   pub fit-counted : (n : ℕ) → waiting (t .wait) ≡ true → 1 ≤ n → n ≤ mostTicks → Fit a i (withCounter n t)
-  fit-counted n w l h = fit-used a i (withCounter n t) u (sound-counted n (t .wait) t s w l h)
+  fit-counted n w l h = fit-used u (sound-counted n (t .wait) t w l h own)
       (f .init) (λ e. ready-counter n t ∙ f .ready e) (rw (line-counter n t) (f .stands)) (f .full)
 
   -- a tick less is left of its turn
   pub fit-charged : (n : ℕ) → isReady t ≡ true → t .place ≡ 1 → 1 ≤ n → n ≤ t .turn → Fit a i (withCounter n t)
   fit-charged n r p l h =
       let w = ready-parts t r .2 in
-      fit-used a i (withCounter n t) u
-      (rw (rest-counter n (t .wait) w) (rest-sound t n (s .priority) (s .turn) (s .empty) (s .parcel (rest-sending (t .wait) w)) (λ e q. (l, h)) (λ e q. absurd (omega arith)) (λ e. absurd (clash (rest-ready n t r) e))))
+      fit-used u (rw (rest-counter n (t .wait) w) (rest-sound t n (own .priority) (own .turn) (own .empty) (own .parcel (rest-sending (t .wait) w))
+      (λ e q. (l, h)) (λ e q. absurd (omega arith)) (λ e. absurd (clash (rest-ready n t r) e))))
       (f .init) (λ e. ready-counter n t ∙ f .ready e) (rw (line-counter n t) (f .stands)) (f .full)

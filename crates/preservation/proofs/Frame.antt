@@ -1,17 +1,17 @@
 -- A step neither adds nor takes away a record, and with lock above 0 after it the running thread is the one before: every operation
 -- is moves and edits, and only settling with lock 0 says anew who runs. Assumes nothing.
-use mathlib.Core.Bool.{Bool, true, false, not, _||_}
-use mathlib.Core.Path.{_≡_, refl, ap, sym, _∙_}
+use mathlib.Core.Bool.{Bool, true, false}
+use mathlib.Core.Path.{_≡_, refl, _∙_}
 use mathlib.Core.List.{List}
 use Prim.Native.Nat.{ℕ, zero, suc}
 use borrow.Author.Tests.{eqb-true}
-use lib.Dec.{eqb, leb}
+use lib.Dec.{eqb}
 use lib.ListN.{length, set, length-set}
 use Rattle.rules.specs.Basic.{if_then_else_}
 use Rattle.rules.specs.Board.{Board}
-use Rattle.rules.specs.State.{State, On, at, withThreads, withSems, withLock, edit}
+use Rattle.rules.specs.State.{State, On, withThreads, withSems, withLock, edit}
 use Rattle.rules.specs.Lines.{Line, first, move, settle}
-use Rattle.rules.specs.Waiting.{Step, accept, endWait, serve, block, mustWait}
+use Rattle.rules.specs.Waiting.{Step, endWait, serve, block, mustWait}
 use Rattle.rules.specs.Threads.{doYield, doCreate, deleted, doDelete, doSet, doSuspend, doResume, doDelay, breakOff, doCancel}
 use Rattle.rules.specs.Mail.{delivered, doSend, doSendFromInterrupt, emptied, doReceive}
 use Rattle.rules.specs.Semaphores.{doMake, doDrop, doPend, doAbort, posted, doPost, doPostFromInterrupt}
@@ -51,7 +51,7 @@ use Rattle.laws.proofs.Moves.{length-move}
 
 -- THREADS
 
-pub Long : List Thread → List Thread → Type 0
+Long : List Thread → List Thread → Type 0
 Long ts us = length us ≡ length ts
 
 long-same : (ts : List Thread) → Long ts ts
@@ -82,7 +82,7 @@ long-timeouts ts us (suc n) p = let q = long-timeouts ts us n p in search (long-
 
 -- STATES
 
-pub record Framed (s s' : State) : Type 0 where
+record Framed (s s' : State) : Type 0 where
   pub threads : Long (s .threads) (s' .threads)
   pub sems : length (s' .sems) ≡ length (s .sems)
   pub running : (s' .lock ≡ 0 → ⊥) → s' .running ≡ s .running
@@ -108,7 +108,7 @@ framed-settle s s' f = if-case (Framed s) (eqb (s' .lock) 0)
 
 -- STEPS
 
-pub Firm : State → Step → Type 0
+Firm : State → Step → Type 0
 Firm s r = Framed s (r .state)
 
 firm-if : (s : State) (b : Bool) (x y : Step) → Firm s x → Firm s y → Firm s (if b then x else y)
@@ -125,29 +125,29 @@ firm-settle s s' a f = framed-settle s s' f
 
 ruleset firm = (long-same, long-if, long-move, long-edit, long-serve, long-timeouts, framed-threads, framed-sem, framed-count, framed-lock, firm-if, firm-same, firm-settle)
 
-pub firm-step : (s : State) (q : Request) → Firm s (step s q)
+firm-step : (s : State) (q : Request) → Firm s (step s q)
 unfolding step endWait block mustWait doYield doCreate deleted doDelete doSet doSuspend doResume doDelay breakOff doCancel delivered doSend doSendFromInterrupt emptied doReceive doMake doDrop doPend doAbort posted doPost doPostFromInterrupt charge charged doLock doUnlock doTick doOutcome
-firm-step s Yield = search firm depth 8
-firm-step s (Create i p n) = search firm depth 8
-firm-step s (Delete i) = search firm depth 8
+firm-step s Yield = search firm depth 10
+firm-step s (Create i p n) = search firm depth 10
+firm-step s (Delete i) = search firm depth 10
 firm-step s (Set i p n) = search firm depth 10
 firm-step s (Suspend i) = search firm depth 10
 firm-step s (Resume i) = search firm depth 10
-firm-step s (Delay n) = search firm depth 8
-firm-step s (Cancel i) = search firm depth 8
+firm-step s (Delay n) = search firm depth 10
+firm-step s (Cancel i) = search firm depth 10
 firm-step s (Send i n x) = search firm depth 10
 firm-step s (SendFromInterrupt i x) = search firm depth 10
 firm-step s (Receive n) = search firm depth 10
-firm-step s (Make k n) = search firm depth 8
-firm-step s (Drop k) = search firm depth 8
-firm-step s (Pend k n) = search firm depth 8
-firm-step s (Abort i) = search firm depth 8
-firm-step s (Post k n) = search firm depth 8
-firm-step s (PostFromInterrupt k n) = search firm depth 8
-firm-step s Lock = search firm depth 8
-firm-step s Unlock = search firm depth 8
-firm-step s Tick = search firm depth 8
-firm-step s (Outcome i) = search firm depth 8
+firm-step s (Make k n) = search firm depth 10
+firm-step s (Drop k) = search firm depth 10
+firm-step s (Pend k n) = search firm depth 10
+firm-step s (Abort i) = search firm depth 10
+firm-step s (Post k n) = search firm depth 10
+firm-step s (PostFromInterrupt k n) = search firm depth 10
+firm-step s Lock = search firm depth 10
+firm-step s Unlock = search firm depth 10
+firm-step s Tick = search firm depth 10
+firm-step s (Outcome i) = search firm depth 10
 
 -- a step neither adds nor takes away a record
 pub on-kept : (b : Board) (s : State) (q : Request) → On b s → On b (step s q .state)

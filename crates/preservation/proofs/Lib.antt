@@ -8,5 +8,5 @@ pub mod Threads
 pub mod Mail
 pub mod Semaphores
 pub mod Time
-pub mod Steps
 pub mod Frame
+pub mod Steps

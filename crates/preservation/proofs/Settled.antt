@@ -1,17 +1,18 @@
 -- A sound state asks of its threads what it is sound by, and a state whose threads are what it asks is sound once it is settled: the
 -- running thread is then the top, or under lock the one that it asks to stay ready. Assumes nothing.
 use mathlib.Core.Bool.{Bool, true, false, not, _&&_}
-use mathlib.Core.Path.{_≡_, refl, ap, sym, _∙_}
+use mathlib.Core.Path.{_≡_, refl, ap}
 use mathlib.Core.Logic.{_≢_}
 use mathlib.Core.List.{List}
-use Prim.Native.Nat.{ℕ, zero, suc, pred, _≤_, _<_}
+use Prim.Native.Nat.{ℕ, _≤_}
 use native.Mathlib.Omega.{arith}
 use native.Mathlib.Decide.{ℕ-discrete}
 use borrow.Author.Tests.{eqb-false, eq-eqb}
-use lib.Dec.{eqb, ltb}
+use lib.Dec.{eqb}
+use lib.ListN.{set}
 use Rattle.rules.specs.Basic.{if_then_else_}
-use Rattle.rules.specs.Board.{topPriority, mostCount, mostLock}
-use Rattle.rules.specs.State.{State, free, freeSem, at, semAt, waiting, isReady, withThreads, withLock, withRunning}
+use Rattle.rules.specs.Board.{mostCount, mostLock}
+use Rattle.rules.specs.State.{State, free, freeSem, at, semAt, waiting, isReady, withThreads, withSems, withLock, withRunning}
 use Rattle.rules.specs.Lines.{Line, nowhere, ready, waiters, senders, same, line, waitLine, inLine, lineLength, top, settle}
 use Rattle.rules.specs.Threads.{bound}
 use Rattle.rules.specs.Sound.{Sound}
@@ -19,12 +20,13 @@ use Rattle.rules.specs.declared.Thread.{Thread}
 use Rattle.rules.specs.declared.Sem.{Sem}
 use Rattle.rules.specs.declared.Wait.{Wait}
 use Rattle.rules.specs.declared.Wait.the-variants.{Nothing, Delay, Receive, Send, Semaphore}
-use Rattle.laws.proofs.Split.{clash, and-true, and-both, if-case}
+use Rattle.laws.proofs.Split.{and-true, and-both, if-case}
 use Rattle.laws.proofs.Reflect.{reflect}
 use Rattle.laws.proofs.Standing.{ready-used}
+use Rattle.laws.proofs.Members.{set-each}
 use Rattle.laws.proofs.Counts.{count-in}
 use Rattle.laws.proofs.Top.{Top, top-highest}
-use Rattle.preservation.proofs.Fit.{Asks, mayStand, Fit, Held, waits-used, full-used}
+use Rattle.preservation.proofs.Fit.{Asks, mayStand, Meets, waits-used, full-used}
 
 -- in use with count 0
 abbrev pub isSpent : Sem → Bool
@@ -41,8 +43,8 @@ without i a = record { boxes = a .boxes; spent = a .spent; full = λ j. not (eqb
 pub without-self : (i : ℕ) (a : Asks) → without i a .full i ≡ false
 without-self i a = rw (eq-eqb i i refl)
 
-pub held-without : (i : ℕ) (a : Asks) (ts : List Thread) → Held a ts → Held (without i a) ts
-held-without i a ts v = record {
+pub meets-without : (i : ℕ) {a : Asks} {ts : List Thread} → Meets a ts → Meets (without i a) ts
+meets-without i {a} v = record {
   each = λ j. let f = v .each j in record {
     blank = f .blank;
     sound = f .sound;
@@ -60,7 +62,7 @@ pub record SoundSem (e : Sem) : Type 0 where
 
 -- sound but for who runs
 pub record Unsettled (s : State) : Type 0 where
-  pub threads : Held (asks s) (s .threads)
+  pub threads : Meets (asks s) (s .threads)
   pub sems : (k : ℕ) → SoundSem (semAt (s .sems) k)
   pub lock : s .lock ≤ mostLock
 
@@ -77,8 +79,8 @@ may-stand a i true s (Send to n) p f g = f to n refl
 may-stand a i true s (Semaphore k n) p f g = g k n refl
 
 -- whatever its lock becomes
-pub sound-held : (s : State) (n : ℕ) → Sound s → Held (asks (withLock n s)) (s .threads)
-sound-held s n σ = record {
+pub sound-relocked : {s : State} (n : ℕ) → Sound s → Meets (asks (withLock n s)) (s .threads)
+sound-relocked {s} n σ = record {
   each = λ i. let t = at (s .threads) i in record {
     blank = σ .freeThread i;
     sound = σ .threads i;
@@ -91,27 +93,29 @@ sound-held s n σ = record {
   lines = σ .lines;
 }
 
-pub sound-unsettled : (s : State) → Sound s → Unsettled s
-sound-unsettled s σ = record { threads = sound-held s (s .lock) σ; sems = λ k. record { blank = σ .freeSemaphore k; most = σ .counts k }; lock = σ .lock }
+pub sound-meets : {s : State} → Sound s → Meets (asks s) (s .threads)
+sound-meets {s} σ = sound-relocked (s .lock) σ
+
+pub sound-sems : {s : State} → Sound s → (k : ℕ) → SoundSem (semAt (s .sems) k)
+sound-sems σ k = record { blank = σ .freeSemaphore k; most = σ .counts k }
+
+pub sound-unsettled : {s : State} → Sound s → Unsettled s
+sound-unsettled σ = record { threads = sound-meets σ; sems = sound-sems σ; lock = σ .lock }
 
 -- TO A SOUND STATE
 
-module _ (s : State) (h : Unsettled s) where
+module _ {s : State} (h : Unsettled s) where
   sends : (i to n : ℕ) → at (s .threads) i .wait ≡ Send to n → (i ≢ to) × (at (s .threads) to .used ≡ true) × (at (s .threads) to .full ≡ true)
   sends i to n e =
       let f = h .threads .each i in
-      let u = waits-used (asks s) i (at (s .threads) i) f (ap waiting e) in
-      let x = simp reflect at (rw (u, e) at (f .stands)) in
-      (x .0, full-used (asks s) to (at (s .threads) to) (h .threads .each to) (x .1), x .1)
+      let x = simp reflect at (rw (waits-used f (ap waiting e), e) at (f .stands)) in
+      (x .0, full-used (h .threads .each to) (x .1), x .1)
 
   pends : (i k n : ℕ) → at (s .threads) i .wait ≡ Semaphore k n → (semAt (s .sems) k .used ≡ true) × (semAt (s .sems) k .count ≡ 0)
-  pends i k n e =
-      let f = h .threads .each i in
-      let u = waits-used (asks s) i (at (s .threads) i) f (ap waiting e) in
-      simp reflect at (rw (u, e) at (f .stands))
+  pends i k n e = let f = h .threads .each i in simp reflect at (rw (waits-used f (ap waiting e), e) at (f .stands))
 
-  runner : (r : ℕ) → isReady (at (s .threads) r) ≡ true → (s .lock ≡ 0 → Top (s .threads) r) → Sound (withRunning r s)
-  runner r e t = record {
+  running : (r : ℕ) → isReady (at (s .threads) r) ≡ true → (s .lock ≡ 0 → Top (s .threads) r) → Sound (withRunning r s)
+  running r e t = record {
     freeThread = λ i. h .threads .each i .blank;
     freeSemaphore = λ k. h .sems k .blank;
     threads = λ i. h .threads .each i .sound;
@@ -126,20 +130,23 @@ module _ (s : State) (h : Unsettled s) where
     highest = λ z. t z .highest;
   }
 
+  on-top : Top (s .threads) (top (s .threads))
+  on-top = top-highest (s .threads) (h .threads .lines) (h .threads .each 0 .ready refl)
+      (λ i r. h .threads .each i .sound (ready-used (at (s .threads) i) r) .priority)
+
   pub settled : Sound (settle s)
   unfolding settle
-  settled = if-case Sound (eqb (s .lock) 0)
-      (λ e. let t : Top (s .threads) (top (s .threads)) = top-highest (s .threads) (h .threads .lines) (h .threads .each 0 .ready refl)
-      (λ i r. h .threads .each i .sound (ready-used (at (s .threads) i) r) .priority) in runner (top (s .threads)) (t .ready) (λ z. t))
-      (λ e. let n : s .lock ≢ 0 = eqb-false (s .lock) 0 e in runner (s .running) (h .threads .each (s .running) .ready (simp reflect (λ q. (refl, omega arith)))) (λ z. absurd (n z)))
+  settled = if-case Sound (eqb (s .lock) 0) (λ e. running (top (s .threads)) (on-top .ready) (λ z. on-top)) (λ e.
+      let n : s .lock ≢ 0 = eqb-false (s .lock) 0 e in
+      running (s .running) (h .threads .each (s .running) .ready (simp reflect (λ q. (refl, omega arith)))) (λ z. absurd (n z)))
 
--- A STEP OF THREADS
+-- OTHER THREADS IN A SOUND STATE
 
--- what was asked by a, where the lines that have members are open still
+-- what a asks, a state asks of its threads where the lines that have members are open to them still
 pub renewed : (a : Asks) (s : State) → ((i : ℕ) → bound s i ≡ true → a .bound i ≡ true)
     → ((i : ℕ) → 1 ≤ lineLength (senders i) (s .threads) → a .boxes i ≡ true → at (s .threads) i .full ≡ true)
     → ((k : ℕ) → 1 ≤ lineLength (waiters k) (s .threads) → a .spent k ≡ true → isSpent (semAt (s .sems) k) ≡ true)
-    → Held a (s .threads) → Held (asks s) (s .threads)
+    → Meets a (s .threads) → Meets (asks s) (s .threads)
 renewed a s b m e v = record {
   each = λ i. let f = v .each i in record {
     blank = f .blank;
@@ -152,32 +159,41 @@ renewed a s b m e v = record {
   lines = v .lines;
 }
   where
+    member : (l : Line) (i : ℕ) → inLine l (at (s .threads) i) ≡ true → 1 ≤ lineLength l (s .threads)
+    member l i q = count-in (inLine l) free refl (s .threads) i q
+
     again : (i : ℕ) (l : Line) → ((k : Line) → same l k ≡ true → inLine k (at (s .threads) i) ≡ true) → mayStand a i l ≡ true → mayStand (asks s) i l ≡ true
     again i nowhere q h = refl
     again i (ready p) q h = refl
-    again i (waiters k) q h = e k (count-in (inLine (waiters k)) free refl (s .threads) i (q (waiters k) (eq-eqb k k refl))) h
+    again i (waiters k) q h = e k (member (waiters k) i (q (waiters k) (eq-eqb k k refl))) h
     again i (senders j) q h =
         let x = and-true (not (eqb i j)) (a .boxes j) h in
-        and-both (not (eqb i j)) (at (s .threads) j .full) (x .0) (m j (count-in (inLine (senders j)) free refl (s .threads) i (q (senders j) (eq-eqb j j refl))) (x .1))
+        and-both (not (eqb i j)) (at (s .threads) j .full) (x .0) (m j (member (senders j) i (q (senders j) (eq-eqb j j refl))) (x .1))
 
-module _ (s : State) (us : List Thread) (σ : Sound s) where
-  u : Unsettled s
-  u = sound-unsettled s σ
-
-  -- its threads are replaced
-  pub kept-threads : Held (asks s) us → Unsettled (withThreads us s)
+module _ {s : State} (us : List Thread) (σ : Sound s) where
+  pub kept-threads : Meets (asks s) us → Unsettled (withThreads us s)
   kept-threads v = record {
     threads = renewed (asks s) (withThreads us s) (λ i q. q) (λ i n. v .each i .full) (λ k n q. q) v;
-    sems = u .sems;
-    lock = u .lock;
+    sems = sound-sems σ;
+    lock = σ .lock;
   }
 
-  -- its threads are replaced and mailbox i, which nobody sends to, need not stay full
-  pub kept-emptied : (i : ℕ) → Held (without i (asks s)) us → lineLength (senders i) us ≡ 0 → Unsettled (withThreads us s)
+  -- where nobody sends to mailbox i, it need not stay full
+  pub kept-emptied : (i : ℕ) → Meets (without i (asks s)) us → lineLength (senders i) us ≡ 0 → Unsettled (withThreads us s)
   kept-emptied i v z = record {
     threads = renewed (without i (asks s)) (withThreads us s) (λ j q. q)
         (λ j n q. v .each j .full (simp reflect (λ e. absurd (omega (arith, z, ap (λ k. lineLength (senders k) us) e)), q)))
         (λ k n q. q) v;
-    sems = u .sems;
-    lock = u .lock;
+    sems = sound-sems σ;
+    lock = σ .lock;
+  }
+
+  -- where somebody waits on semaphore k still, it stays in use with count 0
+  pub kept-sem : (k : ℕ) (e : Sem) → Meets (asks s) us → SoundSem e → (1 ≤ lineLength (waiters k) us → isSpent (semAt (s .sems) k) ≡ true → isSpent e ≡ true)
+      → Unsettled (withSems (set (s .sems) k e) (withThreads us s))
+  kept-sem k e v o h = record {
+    threads = renewed (asks s) (withSems (set (s .sems) k e) (withThreads us s)) (λ i q. q) (λ i n. v .each i .full)
+        (set-each (λ j x. 1 ≤ lineLength (waiters j) us → isSpent (semAt (s .sems) j) ≡ true → isSpent x ≡ true) freeSem (s .sems) k e h (λ j n q. q)) v;
+    sems = set-each (λ j x. SoundSem x) freeSem (s .sems) k e o (sound-sems σ);
+    lock = σ .lock;
   }
