@@ -1,30 +1,30 @@
 -- Fairness: a tick charged to the rank lowers each member's due by 1, every other step leaves the rank as it is, and where as many ticks
--- are charged to the rank as its turns sum to, each due has come round once. Assumes that a step keeps a sound state sound.
-use mathlib.Core.Bool.{Bool, true, false, not, _&&_}
+-- are charged to the rank as its turns sum to, each due has come round once. Assumes nothing.
+use mathlib.Core.Bool.{Bool, true, false, _&&_}
 use mathlib.Core.Path.{_≡_, refl, ap, sym, _∙_}
-use mathlib.Core.List.{List, [], _∷_, map, _++_}
-use Prim.Native.Nat.{ℕ, _+_, _≤_, _<_}
+use mathlib.Core.List.{List, [], _∷_, _++_}
+use Prim.Native.Nat.{ℕ, _+_, _<_}
 use native.Mathlib.Omega.{arith}
 use lib.Dec.{eqb}
-use borrow.Author.Tests.{eqb-true, not-true}
+use borrow.Author.Tests.{not-true}
 use lib.ListN.{length, getD, List·getD-map}
-use Rattle.rules.specs.Basic.{if_then_else_, bit, count, all, sameBytes}
+use Rattle.rules.specs.Basic.{if_then_else_, bit, count, all}
 use Rattle.rules.specs.State.{State, free, at}
 use Rattle.rules.specs.Lines.{ready, inLine}
 use Rattle.rules.specs.Sound.{Sound}
 use Rattle.rules.specs.Answers.{codeOf}
-use Rattle.rules.specs.Waiting.{Step}
 use Rattle.rules.specs.Time.{doTick}
 use Rattle.rules.specs.Steps.{step}
 use Rattle.rules.specs.declared.Thread.{Thread}
 use Rattle.rules.specs.declared.Request.{Request}
-use Rattle.rules.specs.declared.Request.the-variants.{Tick}
-use Rattle.laws.proofs.Split.{is, isnt, test, clash, and-true, and-both, and-off}
+use Rattle.laws.proofs.Split.{is, isnt, test, and-true, and-both, and-off}
 use Rattle.laws.proofs.Members.{in-range, Σ-shift}
-use Rattle.fairness.specs.Run.{Event, kindOf, kind, isTick, isZero, accepted, readyAt, readySet, sameSet, sumTurns, chargedTo, chargedRank}
+use Rattle.laws.proofs.Counts.{bytes-same}
+use Rattle.preservation.proofs.Steps.{kept}
+use Rattle.fairness.specs.Run.{Event, deedOf, deed, isTick, isZero, accepted, readyAt, readySet, sameSet, sumTurns, chargedTo, chargedRank}
 use Rattle.fairness.specs.Fair.{ByRules, refused, served, RunFrom, moves, steady, Fairness}
 use Rattle.fairness.proofs.Keeps.{Same}
-use Rattle.fairness.proofs.Operations.{Effect, Does, ticks, keeps, does}
+use Rattle.fairness.proofs.Operations.{Effect, ticks, keeps, does}
 use Rattle.fairness.proofs.Rank.{turns, Fare, no-fare, fares, whole-round, same-turns}
 use Rattle.fairness.proofs.View.{cell, view, view-in, member-place, good}
 use Rattle.fairness.proofs.Ticks.{still, tick-fare}
@@ -32,21 +32,15 @@ use Rattle.fairness.proofs.Ticks.{still, tick-fare}
 -- A STEP
 
 module _ (p n : ℕ) (s : State) (σ : Sound s) (below : (j : ℕ) → readyAt p s j ≡ true → j < n) (i : ℕ) (m : readyAt p s i ≡ true) where
-  step-fare : (q : Request) → Same p (s .threads) (step s q .state .threads) → isZero (codeOf (step s q .answer)) && moves p s (kindOf q) ≡ false
+  step-fare : (q : Request) → Same p (s .threads) (step s q .state .threads) → isZero (codeOf (step s q .answer)) && moves p s (deedOf q) ≡ false
       → Fare n i (view p (s .threads)) (view p (step s q .state .threads))
-      (bit (isTick (kindOf q) && isZero (codeOf (step s q .answer)) && eqb (s .lock) 0 && readyAt p s (s .running)))
-      (bit (isTick (kindOf q) && isZero (codeOf (step s q .answer)) && eqb (s .lock) 0 && eqb (s .running) i))
+      (bit (isTick (deedOf q) && isZero (codeOf (step s q .answer)) && eqb (s .lock) 0 && readyAt p s (s .running)))
+      (bit (isTick (deedOf q) && isZero (codeOf (step s q .answer)) && eqb (s .lock) 0 && eqb (s .running) i))
   unfolding Effect step doTick
   step-fare q h o = elim (does p s q o) [
     | ticks e ↦ rw e (tick-fare p n s σ below (rw e at h) i m)
     | keeps e k ↦ rw e (still p n i (s .threads) (step s q .state .threads) h (k h))
   ]
-
-bytes-eq : (xs ys : List ℕ) → sameBytes xs ys ≡ true → xs ≡ ys
-bytes-eq [] [] e = refl
-bytes-eq [] (y ∷ ys) e = absurd (clash e refl)
-bytes-eq (x ∷ xs) [] e = absurd (clash e refl)
-bytes-eq (x ∷ xs) (y ∷ ys) e = let z = and-true (eqb x y) (sameBytes xs ys) e in λ i. eqb-true x y (z .0) i ∷ bytes-eq xs ys (z .1) i
 
 bit-eq : (a b : Bool) → bit a ≡ bit b → a ≡ b
 bit-eq true true e = refl
@@ -58,7 +52,7 @@ bit-eq false false e = refl
 same-set : (p : ℕ) (e : Event) → sameSet p e ≡ true → (i : ℕ) → readyAt p (e .after) i ≡ readyAt p (e .before) i
 same-set p e h i = bit-eq _ _ (
     sym (List·getD-map (λ t. bit (inLine (ready p) t)) (e .after .threads) i free)
-    ∙ ap (λ l. getD l i 0) (bytes-eq (readySet p (e .after)) (readySet p (e .before)) h)
+    ∙ ap (λ l. getD l i 0) (bytes-same (readySet p (e .after)) (readySet p (e .before)) .0 h)
     ∙ List·getD-map (λ t. bit (inLine (ready p) t)) (e .before .threads) i free)
 
 event-fare : (p n : ℕ) (e : Event) → Sound (e .before) → ((j : ℕ) → readyAt p (e .before) j ≡ true → j < n) → ByRules e → steady p e ≡ true
@@ -68,7 +62,7 @@ unfolding Same
 event-fare p n e σ below (refused a k) h i m = rw (k, a, and-off) (no-fare n i (view p (e .before .threads)))
 event-fare p n e σ below (served q a c k) h i m =
     let x = and-true _ _ h in
-    let o : accepted e && moves p (e .before) (kind (e .asked)) ≡ false = not-true _ (x .1) in
+    let o : accepted e && moves p (e .before) (deed (e .asked)) ≡ false = not-true _ (x .1) in
     rw (a, c, k) (step-fare p n (e .before) σ below i m q (rw k at (same-set p e (x .0))) (rw (a, c) at o))
 
 -- THE TURNS OF A RANK
@@ -106,44 +100,43 @@ record Ran (p n i : ℕ) (s : State) (es : List Event) : Type 0 where
   same : (j : ℕ) → readyAt p (lastOf s es) j ≡ readyAt p s j
   fare : Fare n i (view p (s .threads)) (view p (lastOf s es .threads)) (count (chargedRank p) es) (count (chargedTo i) es)
 
-module _ (kept : (s : State) (q : Request) → Sound s → Sound (step s q .state)) where
-  event-sound : (e : Event) → ByRules e → Sound (e .before) → Sound (e .after)
-  event-sound e (refused a k) σ = rw k σ
-  event-sound e (served q a c k) σ = rw k (kept (e .before) q σ)
+event-sound : (e : Event) → ByRules e → Sound (e .before) → Sound (e .after)
+event-sound e (refused a k) σ = rw k σ
+event-sound e (served q a c k) σ = rw k (kept (e .before) q σ)
 
-  ran : (p n i : ℕ) (s : State) (es : List Event) → Sound s → ((j : ℕ) → readyAt p s j ≡ true → j < n) → readyAt p s i ≡ true
-      → RunFrom s es → all (steady p) es ≡ true → Ran p n i s es
-  ran p n i s [] σ below m h k = record { sound = σ; same = λ j. refl; fare = no-fare n i (view p (s .threads)) }
-  ran p n i s (e ∷ es) σ below m h k =
-      let a = and-true _ _ k in
-      let σ' : Sound (e .before) = rw (h .0) σ in
-      let below' : (j : ℕ) → readyAt p (e .before) j ≡ true → j < n = rw (h .0) below in
-      let m' : readyAt p (e .before) i ≡ true = rw (h .0) m in
-      let q = same-set p e (and-true _ _ (a .0) .0) in
-      let r = ran p n i (e .after) es (event-sound e (h .1) σ') (λ j l. below' j (sym (q j) ∙ l)) (q i ∙ m') (h .2) (a .1) in
-      record {
-        sound = r .sound;
-        same = λ j. r .same j ∙ q j ∙ ap (λ u. readyAt p u j) (h .0);
-        fare = rw (← h .0) (fares n i _ _ _ _ _ _ _ (event-fare p n e σ' below' (h .1) (a .0) i m') (r .fare));
-      }
+ran : (p n i : ℕ) (s : State) (es : List Event) → Sound s → ((j : ℕ) → readyAt p s j ≡ true → j < n) → readyAt p s i ≡ true
+    → RunFrom s es → all (steady p) es ≡ true → Ran p n i s es
+ran p n i s [] σ below m h k = record { sound = σ; same = λ j. refl; fare = no-fare n i (view p (s .threads)) }
+ran p n i s (e ∷ es) σ below m h k =
+    let a = and-true _ _ k in
+    let σ' : Sound (e .before) = rw (h .0) σ in
+    let below' : (j : ℕ) → readyAt p (e .before) j ≡ true → j < n = rw (h .0) below in
+    let m' : readyAt p (e .before) i ≡ true = rw (h .0) m in
+    let q = same-set p e (and-true _ _ (a .0) .0) in
+    let r = ran p n i (e .after) es (event-sound e (h .1) σ') (λ j l. below' j (sym (q j) ∙ l)) (q i ∙ m') (h .2) (a .1) in
+    record {
+      sound = r .sound;
+      same = λ j. r .same j ∙ q j ∙ ap (λ u. readyAt p u j) (h .0);
+      fare = rw (← h .0) (fares n i _ _ _ _ _ _ _ (event-fare p n e σ' below' (h .1) (a .0) i m') (r .fare));
+    }
 
-  pub fairness : Fairness
-  fairness p s before part behind σ h k w i m =
-      let ts = s .threads in
-      let n = length ts in
-      let u = lastOf s before in
-      let x = lastOf u part in
-      let h₁ = run-append s before (part ++ behind) h in
-      let k₁ = all-append (steady p) before (part ++ behind) k in
-      let h₂ = run-append u part behind (h₁ .1) in
-      let k₂ = all-append (steady p) part behind (k₁ .1) in
-      let b : (j : ℕ) → readyAt p s j ≡ true → j < n = λ j l. in-range ts j (ready p) l in
-      let a : Ran p n i s before = ran p n i s before σ b m (h₁ .0) (k₁ .0) in
-      let c : (j : ℕ) → readyAt p u j ≡ true → j < n = λ j l. b j (sym (a .same j) ∙ l) in
-      let m₁ : readyAt p u i ≡ true = a .same i ∙ m in
-      let r : Ran p n i u part = ran p n i u part (a .sound) c m₁ (h₂ .0) (k₂ .0) in
-      let d : (j : ℕ) → readyAt p x j ≡ true → j < n = λ j l. c j (sym (r .same j) ∙ l) in
-      let full : count (chargedRank p) part ≡ turns n (view p (u .threads)) = w ∙ sum-turns p ts ∙ sym (same-turns n (view p ts) (view p (u .threads)) (a .fare .turn)) in
-      whole-round n _ _ i _ (view p (u .threads)) (view p (x .threads)) (good p n u (a .sound) c) (good p n x (r .sound) d)
-      (member-place p u (a .sound) i m₁) (member-place p x (r .sound) i (r .same i ∙ m₁)) (rw full at (r .fare))
-      ∙ a .fare .turn i ∙ ap (λ z. z .turn) (view-in p ts i m)
+pub fairness : Fairness
+fairness p s before part behind σ h k w i m =
+    let ts = s .threads in
+    let n = length ts in
+    let u = lastOf s before in
+    let x = lastOf u part in
+    let h₁ = run-append s before (part ++ behind) h in
+    let k₁ = all-append (steady p) before (part ++ behind) k in
+    let h₂ = run-append u part behind (h₁ .1) in
+    let k₂ = all-append (steady p) part behind (k₁ .1) in
+    let b : (j : ℕ) → readyAt p s j ≡ true → j < n = λ j l. in-range ts j (ready p) l in
+    let a : Ran p n i s before = ran p n i s before σ b m (h₁ .0) (k₁ .0) in
+    let c : (j : ℕ) → readyAt p u j ≡ true → j < n = λ j l. b j (sym (a .same j) ∙ l) in
+    let m₁ : readyAt p u i ≡ true = a .same i ∙ m in
+    let r : Ran p n i u part = ran p n i u part (a .sound) c m₁ (h₂ .0) (k₂ .0) in
+    let d : (j : ℕ) → readyAt p x j ≡ true → j < n = λ j l. c j (sym (r .same j) ∙ l) in
+    let full : count (chargedRank p) part ≡ turns n (view p (u .threads)) = w ∙ sum-turns p ts ∙ sym (same-turns n (view p ts) (view p (u .threads)) (a .fare .turn)) in
+    whole-round n _ _ i _ (view p (u .threads)) (view p (x .threads)) (good p n u (a .sound) c) (good p n x (r .sound) d)
+    (member-place p u (a .sound) i m₁) (member-place p x (r .sound) i (r .same i ∙ m₁)) (rw full at (r .fare))
+    ∙ a .fare .turn i ∙ ap (λ z. z .turn) (view-in p ts i m)

@@ -1,8 +1,7 @@
 -- What a change of the threads' records does to the members of one rank's ready line: it keeps them, with place, counter and turn.
 -- A `move` or an `edit` of a thread that is no member keeps the rank, whatever the set is afterwards. Assumes nothing.
-use mathlib.Core.Bool.{Bool, true, false}
+use mathlib.Core.Bool.{true, false}
 use mathlib.Core.Path.{_≡_, refl, _∙_}
-use mathlib.Core.Logic.{_≢_}
 use mathlib.Core.List.{List}
 use Prim.Native.Nat.{ℕ}
 use native.Mathlib.Decide.{ℕ-discrete}

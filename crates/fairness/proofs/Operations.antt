@@ -2,18 +2,18 @@
 -- left the set. Assumes nothing.
 use mathlib.Core.Bool.{Bool, true, false, not, _&&_, _||_}
 use mathlib.Core.Path.{_≡_, refl, ap, sym, _∙_}
-use mathlib.Core.List.{List, [], _∷_}
+use mathlib.Core.List.{List}
 use Prim.Native.Nat.{ℕ, zero, suc, pred, _<_}
 use native.Mathlib.Omega.{arith}
 use native.Mathlib.Decide.{ℕ-discrete, decLt}
 use lib.Dec.{eqb, ltb}
 use borrow.Author.Tests.{ltb-false, not-false}
 use lib.ListN.{length, List·getD-eq-default}
-use Rattle.rules.specs.Basic.{if_then_else_, find}
+use Rattle.rules.specs.Basic.{if_then_else_}
 use Rattle.rules.specs.State.{State, free, at, caller, counterOf, waiting, delaying, receiving, pending, isReady, withPlace, withCounter, withMail, withSettings, withThreads, edit}
-use Rattle.rules.specs.Lines.{Line, senders, waiters, ready, same, line, inLine, lineLength, isFirst, first, moveUp, filled, move, settle}
+use Rattle.rules.specs.Lines.{Line, senders, ready, same, line, inLine, lineLength, isFirst, first, filled, move, settle}
 use Rattle.rules.specs.Answers.{codeOf}
-use Rattle.rules.specs.Waiting.{Step, refuse, accept, acceptThreads, ended, endWait, serve, begun, block, mustWait}
+use Rattle.rules.specs.Waiting.{Step, acceptThreads, ended, endWait, serve, begun, block, mustWait}
 use Rattle.rules.specs.Threads.{badPriority, badTicks, noThread, doYield, doCreate, deleted, doDelete, doSet, stopped, doSuspend, doResume, doDelay, breakOff, doCancel}
 use Rattle.rules.specs.Mail.{delivered, doSend, doSendFromInterrupt, emptied, doReceive}
 use Rattle.rules.specs.Semaphores.{doMake, doDrop, doPend, doAbort, posted, doPost, doPostFromInterrupt}
@@ -49,31 +49,25 @@ use Rattle.rules.specs.declared.Request.the-variants.{
   Outcome,
 }
 use Rattle.rules.specs.declared.Answer.{Answer}
-use Rattle.laws.proofs.Split.{Is, is, isnt, test, clash, and-true, or-false, if-case}
+use Rattle.laws.proofs.Split.{is, isnt, test, clash, and-true, or-false, if-case}
 use Rattle.laws.proofs.Lines.{same-eq, line-filled, waiting-out, unready-out, free-out, suspended-out}
 use Rattle.laws.proofs.Members.{in-range}
+use Rattle.laws.proofs.Counts.{find-hit}
 use Rattle.laws.proofs.Moves.{moveUp-field, move-other, move-self, length-move}
-use Rattle.fairness.specs.Run.{isTick, kindOf, isZero}
+use Rattle.fairness.specs.Run.{isTick, deedOf, isZero}
 use Rattle.fairness.specs.Fair.{moves}
-use Rattle.fairness.proofs.Keeps.{Kept, Keeps, Same, keeps-refl, keeps-trans, keeps-off, keeps-edit, keeps-move}
+use Rattle.fairness.proofs.Keeps.{Keeps, Same, keeps-refl, keeps-trans, keeps-off, keeps-edit, keeps-move}
 
 -- THE FIRST OF A LINE
-
-find-hit : (f : Thread → Bool) (ts : List Thread) → find f ts < length ts → f (at ts (find f ts)) ≡ true
-find-hit f [] h = absurd (omega arith)
-find-hit f (t ∷ ts) h = elim (test (f t)) [
-  | is e ↦ rw e e
-  | isnt e ↦ rw e (find-hit f ts (omega (arith, rw e at h)))
-]
 
 -- the first of a line that is no ready line of rank p is no member of the rank
 first-out : (p : ℕ) (l : Line) (ts : List Thread) → same l (ready p) ≡ false → inLine (ready p) (at ts (first l ts)) ≡ false
 first-out p l ts e = elim (decLt (first l ts) (length ts)) [
-  | yes h ↦ rw (same-eq (line (at ts (first l ts))) l (and-true _ _ (find-hit (isFirst l) ts h) .0)) e
+  | yes h ↦ rw (same-eq (line (at ts (first l ts))) l (and-true _ _ (find-hit (isFirst l) free refl ts h) .0)) e
   | no h ↦ ap (inLine (ready p)) (List·getD-eq-default ts free (omega arith))
 ]
 
-pub keeps-serve : (p n : ℕ) (l : Line) (o : Outcomes.Outcome) (ts : List Thread) → same l (ready p) ≡ false → Keeps p ts (serve n l o ts)
+keeps-serve : (p n : ℕ) (l : Line) (o : Outcomes.Outcome) (ts : List Thread) → same l (ready p) ≡ false → Keeps p ts (serve n l o ts)
 unfolding serve endWait
 keeps-serve p zero l o ts e = keeps-refl p ts
 keeps-serve p (suc n) l o ts e = keeps-trans p _ _ _ (keeps-move p (first l ts) (ended o 0) ts (first-out p l ts e)) (keeps-serve p n l o (endWait (first l ts) o 0 ts) e)
@@ -83,7 +77,7 @@ serve-free : (n : ℕ) (l : Line) (o : Outcomes.Outcome) (ts : List Thread) (i :
 unfolding serve endWait
 serve-free zero l o ts i h e = e
 serve-free (suc n) l o ts i h e = serve-free n l o (endWait (first l ts) o 0 ts) i (rw (length-move (first l ts) (ended o 0) ts) h) (elim (ℕ-discrete i (first l ts)) [
-  | yes q ↦ absurd (clash (and-true _ _ (rw (← q) at (find-hit (isFirst l) ts (rw (← q) h))) .0) (free-out l (at ts i) e))
+  | yes q ↦ absurd (clash (and-true _ _ (rw (← q) at (find-hit (isFirst l) free refl ts (rw (← q) h))) .0) (free-out l (at ts i) e))
   | no q ↦ rw (move-other (first l ts) i (ended o 0) ts q) (moveUp-field (λ t. t .used) (line (at ts (first l ts))) (at ts (first l ts) .place) (at ts i) refl ∙ e)
 ])
 
@@ -147,27 +141,22 @@ unlocked : (n : ℕ) (b : Bool) → eqb n 0 && b ≡ false → ltb 0 n ≡ false
 unlocked zero b e z = e
 unlocked (suc n) b e z = absurd (omega (arith, ltb-false 0 (suc n) z))
 
--- a delay, and a wait on a semaphore or for data, is a wait
+-- a delay, and a wait on a semaphore or for data, is a wait: a thread that waits for nothing is in none of them
+waits-in : (kind : Wait → Bool) → ((n : ℕ) → kind (Waits.Nothing n) ≡ false) → (w : Wait) → kind w ≡ true → waiting w ≡ true
+waits-in kind h (Waits.Nothing n) e = absurd (clash e (h n))
+waits-in kind h (Waits.Delay n) e = refl
+waits-in kind h (Waits.Receive n) e = refl
+waits-in kind h (Waits.Send to n) e = refl
+waits-in kind h (Waits.Semaphore on n) e = refl
+
 delaying-waits : (w : Wait) → delaying w ≡ true → waiting w ≡ true
-delaying-waits (Waits.Nothing n) e = e
-delaying-waits (Waits.Delay n) e = refl
-delaying-waits (Waits.Receive n) e = refl
-delaying-waits (Waits.Send to n) e = refl
-delaying-waits (Waits.Semaphore on n) e = refl
+delaying-waits = waits-in delaying (λ n. refl)
 
 pending-waits : (w : Wait) → pending w ≡ true → waiting w ≡ true
-pending-waits (Waits.Nothing n) e = e
-pending-waits (Waits.Delay n) e = refl
-pending-waits (Waits.Receive n) e = refl
-pending-waits (Waits.Send to n) e = refl
-pending-waits (Waits.Semaphore on n) e = refl
+pending-waits = waits-in pending (λ n. refl)
 
 receiving-waits : (w : Wait) → receiving w ≡ true → waiting w ≡ true
-receiving-waits (Waits.Nothing n) e = e
-receiving-waits (Waits.Delay n) e = refl
-receiving-waits (Waits.Receive n) e = refl
-receiving-waits (Waits.Send to n) e = refl
-receiving-waits (Waits.Semaphore on n) e = refl
+receiving-waits = waits-in receiving (λ n. refl)
 
 keeps-mail : (p i : ℕ) (b : Bool) (x : ℕ) (ts : List Thread) → Keeps p ts (edit i (withMail b x) ts)
 keeps-mail p i b x ts = keeps-edit p i (withMail b x) ts (λ m. record { member = m; place = refl; counter = refl; turn = refl })
@@ -228,11 +217,11 @@ yield-done s = if-case (λ (r : Step). isZero (codeOf (r .answer)) ≡ true) (lt
 -- a request is a tick, or keeps the rank
 pub data Does (p : ℕ) (s : State) (q : Request) : Type 0 where
   ticks : q ≡ Tick → Does p s q
-  keeps : isTick (kindOf q) ≡ false → Effect p s (step s q) → Does p s q
+  keeps : isTick (deedOf q) ≡ false → Effect p s (step s q) → Does p s q
 
 ruleset ranks = (effect-if, untouched, settled, gone, stops, blocks, keeps-refl, keeps-move, keeps-off, keeps-serve, keeps-delivered, keeps-emptied, free-out, unready-out, waiting-out, suspended-out, delaying-waits, pending-waits, unlocked, or-right, not-false)
 
-pub does : (p : ℕ) (s : State) (q : Request) → isZero (codeOf (step s q .answer)) && moves p s (kindOf q) ≡ false → Does p s q
+pub does : (p : ℕ) (s : State) (q : Request) → isZero (codeOf (step s q .answer)) && moves p s (deedOf q) ≡ false → Does p s q
 unfolding step doYield doCreate doDelete doSuspend doResume doDelay breakOff doCancel endWait block mustWait doSend doSendFromInterrupt doReceive doMake doDrop doPend doAbort posted doPost
     doPostFromInterrupt doLock doUnlock doOutcome
 does p s Yield h = let o : eqb (s .lock) 0 && inLine (ready p) (caller s) ≡ false = rw (yield-done s) at h in keeps refl (search ranks depth 12)

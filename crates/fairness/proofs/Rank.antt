@@ -1,7 +1,6 @@
 -- One rank's ready line as a function from thread numbers to cells, with no list of its members: place 0 says "not a member".
 -- The due of place q is what is left to the members at places 1 to q. Each tick charged to the rank lowers each due by 1, and a due that
 -- comes to 0 begins again at the sum of the turns. Assumes nothing.
-use mathlib.Core.Bool.{Bool, true, false}
 use mathlib.Core.Path.{_≡_, refl, ap, sym, _∙_}
 use mathlib.Core.Logic.{_≢_}
 use Prim.Native.Nat.{ℕ, zero, suc, pred, _+_, _≤_, _<_}

@@ -1,7 +1,7 @@
 -- The arithmetic of one thread's share. R is the sum of the turns, t the thread's turn, d its due before and d' after; m ticks are charged
 -- to the rank, c of them to the thread; w counts how often its due comes to 0 and begins again at R. Both equations are linear, so two
 -- stretches of a run add up, and no stretch is ever cut into rounds. Assumes nothing.
-use mathlib.Core.Path.{_≡_, refl}
+use mathlib.Core.Path.{_≡_}
 use Prim.Native.Nat.{ℕ, zero, suc, _+_, _*_, _≤_, _<_, min}
 use native.Mathlib.Omega.{arith}
 

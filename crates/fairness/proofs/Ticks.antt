@@ -1,34 +1,26 @@
 -- A tick, to one rank: its first is charged, goes on or goes to the tail; the waits that end move no member. Assumes nothing.
-use mathlib.Core.Bool.{Bool, true, false, not, _&&_}
-use mathlib.Core.Path.{_≡_, refl, ap, sym, _∙_}
+use mathlib.Core.Bool.{true, false, _&&_}
+use mathlib.Core.Path.{_≡_, sym, _∙_}
 use mathlib.Core.Logic.{_≢_}
-use mathlib.Core.List.{List, [], _∷_, map, _++_}
-use Prim.Native.Nat.{ℕ, pred, _+_, _≤_, _<_}
+use mathlib.Core.List.{List}
+use Prim.Native.Nat.{ℕ, pred, _≤_, _<_}
 use native.Mathlib.Omega.{arith}
 use native.Mathlib.Decide.{ℕ-discrete}
 use lib.Dec.{leb, eqb}
-use borrow.Author.Tests.{leb-true, leb-false, eqb-true, ne-eqb, not-true}
-use lib.ListN.{length, getD, List·getD-map}
-use Rattle.rules.specs.Basic.{if_then_else_, bit, count, all, sameBytes}
-use Rattle.rules.specs.State.{State, free, at, caller, counterOf, withCounter, withThreads}
+use borrow.Author.Tests.{leb-true, leb-false, eqb-true, ne-eqb}
+use lib.ListN.{length}
+use Rattle.rules.specs.Basic.{bit}
+use Rattle.rules.specs.State.{State, at, caller, counterOf, withCounter, withThreads}
 use Rattle.rules.specs.Lines.{ready, inLine, lineLength}
 use Rattle.rules.specs.Sound.{Sound}
-use Rattle.rules.specs.Answers.{codeOf}
-use Rattle.rules.specs.Waiting.{Step}
 use Rattle.rules.specs.Time.{charge, charged, timeouts, doTick}
-use Rattle.rules.specs.Steps.{step}
 use Rattle.rules.specs.declared.Thread.{Thread}
-use Rattle.rules.specs.declared.Request.{Request}
-use Rattle.rules.specs.declared.Request.the-variants.{Tick}
-use Rattle.rules.specs.declared.Decoded.the-variants.{Asked}
-use Rattle.laws.proofs.Split.{is, isnt, test, clash, and-true, and-off, if-case}
-use Rattle.laws.proofs.Members.{in-range, Σ-shift}
-use Rattle.fairness.specs.Run.{Event, kindOf, kind, isTick, isZero, accepted, readyAt, readySet, sameSet, sumTurns, chargedTo, chargedRank}
-use Rattle.fairness.specs.Fair.{ByRules, refused, served, RunFrom, moves, steady, Fairness}
+use Rattle.laws.proofs.Split.{is, isnt, test, clash, if-case}
+use Rattle.fairness.specs.Run.{readyAt}
 use Rattle.fairness.proofs.Keeps.{Keeps, Same, keeps-trans, keeps-off, keeps-move}
-use Rattle.fairness.proofs.Operations.{keeps-timeouts, settle-threads, Effect, Does, ticks, keeps, does}
-use Rattle.fairness.proofs.Rank.{Good, Goes, Turns, turns, Fare, goes-fare, turns-fare, no-fare, fares, whole-round, same-turns}
-use Rattle.fairness.proofs.View.{cell, view, view-in, member-sound, member-place, good, view-eq, down, back, down-same, down-goes, back-same, back-turns}
+use Rattle.fairness.proofs.Operations.{keeps-timeouts, settle-threads}
+use Rattle.fairness.proofs.Rank.{Goes, Turns, Fare, goes-fare, turns-fare, no-fare}
+use Rattle.fairness.proofs.View.{view, member-sound, member-place, good, view-eq, down, back, down-same, down-goes, back-same, back-turns}
 
 -- nothing is charged to the rank
 pub still : (p n i : ℕ) (ts us : List Thread) → Same p ts us → Keeps p ts us → Fare n i (view p ts) (view p us) 0 0

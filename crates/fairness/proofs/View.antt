@@ -1,6 +1,6 @@
 -- A rank of a state as cells: the members' places, counters and turns, as `Rank` wants them; and a tick's charge as a step of the cells.
 -- Assumes nothing.
-use mathlib.Core.Bool.{Bool, true, false}
+use mathlib.Core.Bool.{true, false}
 use mathlib.Core.Path.{_≡_, refl, ap, sym, _∙_, fun-ext}
 use mathlib.Core.Logic.{_≢_}
 use mathlib.Core.List.{List}
@@ -9,17 +9,17 @@ use native.Mathlib.Omega.{arith}
 use native.Mathlib.Decide.{ℕ-discrete}
 use lib.ListN.{length}
 use Rattle.rules.specs.Basic.{if_then_else_}
-use Rattle.rules.specs.State.{State, at, edit, counterOf, withCounterOf, isReady, withPlace, withCounter}
+use Rattle.rules.specs.State.{State, at, edit, counterOf, withCounterOf, withPlace, withCounter}
 use Rattle.rules.specs.Lines.{line, inLine, ready, lineLength, moveUp, filled, move}
 use Rattle.rules.specs.Sound.{Sound, SoundThread}
 use Rattle.rules.specs.declared.Thread.{Thread}
 use Rattle.rules.specs.declared.Wait.{Wait}
 use Rattle.rules.specs.declared.Wait.the-variants.{Nothing, Delay, Receive, Send, Semaphore}
-use Rattle.laws.proofs.Split.{Is, is, isnt, test, clash}
+use Rattle.laws.proofs.Split.{is, isnt, test, clash}
 use Rattle.laws.proofs.Lines.{same-eq, in-ready, free-out, line-counter}
 use Rattle.laws.proofs.Members.{edit-same, edit-other, in-range, count-ext}
 use Rattle.laws.proofs.Moves.{moveUp-not, moveUp-behind, moveUp-field, move-other, move-self, changed, changed-self, changed-other, length-changed}
-use Rattle.fairness.proofs.Keeps.{Kept, Keeps, Same}
+use Rattle.fairness.proofs.Keeps.{Keeps, Same}
 use Rattle.fairness.proofs.Rank.{Cell, Good, Goes, Turns}
 
 abbrev pub cell : ℕ → Thread → Cell

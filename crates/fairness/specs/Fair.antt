@@ -8,11 +8,10 @@ use Rattle.rules.specs.Basic.{count, all}
 use Rattle.rules.specs.State.{State, at}
 use Rattle.rules.specs.Sound.{Sound}
 use Rattle.rules.specs.Answers.{codeOf}
-use Rattle.rules.specs.Waiting.{Step}
 use Rattle.rules.specs.Steps.{step}
 use Rattle.rules.specs.declared.Request.{Request}
 use Rattle.rules.specs.declared.Decoded.the-variants.{Asked}
-use Rattle.fairness.specs.Run.{Event, Kind, tick, yield, other, change, kind, accepted, readyAt, sameSet, sumTurns, chargedTo, chargedRank}
+use Rattle.fairness.specs.Run.{Event, Deed, tick, yield, other, change, deed, accepted, readyAt, sameSet, sumTurns, chargedTo, chargedRank}
 
 -- an event by the rules: it is refused and leaves the state as it is, or it is what `step` says
 pub data ByRules (e : Event) : Type 0 where
@@ -25,7 +24,7 @@ RunFrom s [] = Unit {0}
 RunFrom s (e ∷ es) = (e .before ≡ s) × ByRules e × RunFrom (e .after) es
 
 -- what a thread of the rank does to its line by itself; a yield under lock does nothing
-abbrev pub moves : ℕ → State → Kind → Bool
+abbrev pub moves : ℕ → State → Deed → Bool
 moves p s tick = false
 moves p s yield = eqb (s .lock) 0 && readyAt p s (s .running)
 moves p s (change i) = readyAt p s i
@@ -33,7 +32,7 @@ moves p s other = false
 
 -- the rank's ready set stays the same, and none of its threads moves by itself
 abbrev pub steady : ℕ → Event → Bool
-steady p e = sameSet p e && not (accepted e && moves p (e .before) (kind (e .asked)))
+steady p e = sameSet p e && not (accepted e && moves p (e .before) (deed (e .asked)))
 
 -- In every unbroken part of a steady run, where the ticks charged to the rank are as many as the turns of its ready threads sum to, each
 -- of these threads is charged exactly its turn.

@@ -5,8 +5,8 @@ use mathlib.Core.List.{List, [], _∷_, map}
 use Prim.Native.Nat.{ℕ, _+_}
 use lib.Dec.{eqb}
 use lib.IntN.{ℤ, pos, negsuc}
-use Rattle.rules.specs.Basic.{if_then_else_, bit, count, sameBytes}
-use Rattle.rules.specs.State.{State, at, caller}
+use Rattle.rules.specs.Basic.{if_then_else_, bit, sameBytes}
+use Rattle.rules.specs.State.{State, at}
 use Rattle.rules.specs.Lines.{ready, inLine}
 use Rattle.rules.specs.declared.Thread.{Thread}
 use Rattle.rules.specs.declared.Request.{Request}
@@ -43,42 +43,42 @@ pub record Event : Type 0 where
   pub code : ℤ
   pub after : State
 
--- WHAT WAS ASKED, as far as the demand tells requests apart
+-- WHAT IS ASKED, as far as the demand tells requests apart
 
--- `change i` changes the settings of thread i
-pub data Kind : Type 0 where
-  tick yield other : Kind
-  change : ℕ → Kind
+-- `change i` is a change of the settings of thread i
+pub data Deed : Type 0 where
+  tick yield other : Deed
+  change : ℕ → Deed
 
-abbrev pub kindOf : Request → Kind
-kindOf Yield = yield
-kindOf (Create i p n) = other
-kindOf (Delete i) = other
-kindOf (Set i p n) = change i
-kindOf (Suspend i) = other
-kindOf (Resume i) = other
-kindOf (Delay n) = other
-kindOf (Cancel i) = other
-kindOf (Send i n x) = other
-kindOf (SendFromInterrupt i x) = other
-kindOf (Receive n) = other
-kindOf (Make k n) = other
-kindOf (Drop k) = other
-kindOf (Pend k n) = other
-kindOf (Abort i) = other
-kindOf (Post k n) = other
-kindOf (PostFromInterrupt k n) = other
-kindOf Lock = other
-kindOf Unlock = other
-kindOf Tick = tick
-kindOf (Outcome i) = other
+abbrev pub deedOf : Request → Deed
+deedOf Yield = yield
+deedOf (Create i p n) = other
+deedOf (Delete i) = other
+deedOf (Set i p n) = change i
+deedOf (Suspend i) = other
+deedOf (Resume i) = other
+deedOf (Delay n) = other
+deedOf (Cancel i) = other
+deedOf (Send i n x) = other
+deedOf (SendFromInterrupt i x) = other
+deedOf (Receive n) = other
+deedOf (Make k n) = other
+deedOf (Drop k) = other
+deedOf (Pend k n) = other
+deedOf (Abort i) = other
+deedOf (Post k n) = other
+deedOf (PostFromInterrupt k n) = other
+deedOf Lock = other
+deedOf Unlock = other
+deedOf Tick = tick
+deedOf (Outcome i) = other
 
--- a record that asks nothing is none of these
-abbrev pub kind : Decoded → Kind
-kind (Asked q) = kindOf q
-kind Bad = other
+-- a record that asks nothing is no such deed
+abbrev pub deed : Decoded → Deed
+deed (Asked q) = deedOf q
+deed Bad = other
 
-abbrev pub isTick : Kind → Bool
+abbrev pub isTick : Deed → Bool
 isTick tick = true
 isTick yield = false
 isTick other = false
@@ -115,7 +115,7 @@ sumTurns p (t ∷ ts) = (if inLine (ready p) t then t .turn else 0) + sumTurns p
 
 -- "An accepted tick is charged [..], to nobody while the lock is on; a refused one to nobody."
 abbrev pub charges : Event → Bool
-charges e = isTick (kind (e .asked)) && accepted e && eqb (e .before .lock) 0
+charges e = isTick (deed (e .asked)) && accepted e && eqb (e .before .lock) 0
 
 -- "to the thread that was running"
 abbrev pub chargedTo : ℕ → Event → Bool
@@ -128,7 +128,7 @@ chargedRank p e = charges e && readyAt p (e .before) (e .before .running)
 -- THE THREADS' OWN DOING
 
 -- "yields", "is named in [a] change of settings": a thread of the rank, if the request is accepted
-abbrev pub disturbs : ℕ → State → Kind → Bool
+abbrev pub disturbs : ℕ → State → Deed → Bool
 disturbs p s tick = false
 disturbs p s yield = readyAt p s (s .running)
 disturbs p s (change i) = readyAt p s i
@@ -136,4 +136,4 @@ disturbs p s other = false
 
 -- "none of them yields and none is named in an accepted change of settings"
 abbrev pub undisturbed : ℕ → Event → Bool
-undisturbed p e = not (accepted e && disturbs p (e .before) (kind (e .asked)))
+undisturbed p e = not (accepted e && disturbs p (e .before) (deed (e .asked)))

@@ -2,3 +2,7 @@
 pub mod Refusals
 pub mod Demand1
 pub mod Demand2
+pub mod Demand3
+pub mod Figures
+pub mod Rounds
+pub mod Incident
