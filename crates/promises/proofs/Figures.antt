@@ -38,4 +38,4 @@ own-turns d p r fair e =
     let c = and-true _ _ (b .0) in
     own-shares p 0 (decode printer (r .table) .threads) _ (λ j n q m.
     let k : n ≡ j = omega arith in
-    rw k (fair (r .table) (r .calls) p (r .from) (r .steps) (tested-table printer (r .table) .0 (c .0)) (c .1) (b .1) (eqb-true _ _ (a .1)) j m))
+    rw k (fair (r .table) (r .handed) p (r .from) (r .steps) (tested-table printer (r .table) .0 (c .0)) (c .1) (b .1) (eqb-true _ _ (a .1)) j m))

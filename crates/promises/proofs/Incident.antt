@@ -21,5 +21,5 @@ applied =
 pub incident : Incident
 unfolding counted
 incident fair =
-    let round : Run = record { table = lanes; calls = asks (cutAfterTick 2); from = 1; steps = 8 } in
+    let round : Run = record { table = lanes; handed = asks (cutAfterTick 2); from = 1; steps = 8 } in
     clash (own-turns sendsBack 5 round fair (ap premises (computed .seats .round))) (ap ownTurns (computed .seats .round))

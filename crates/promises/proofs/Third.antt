@@ -23,7 +23,10 @@ use Rattle.preservation.proofs.Frame.{on-kept}
 use Rattle.fairness.specs.Run.{Event, Deed, tick, yield, other, change, deed, accepted, readyAt, sameSet, disturbs, undisturbed}
 use Rattle.fairness.specs.Fair.{ByRules, refused, served, RunFrom, moves, steady}
 use Rattle.fairness.proofs.Fair.{fairness}
-use Rattle.promises.specs.Demand3.{Call, eventOf, runOf, Demand3}
+use Rattle.promises.specs.Demand2.{Handed}
+use Rattle.promises.specs.Demand3.{eventOf, runOf, Demand3}
+
+-- NOBODY MOVES BY ITSELF
 
 -- who does not disturb the rank does not move in it
 moves-not : (a : Bool) (p : ℕ) (s : State) (k : Deed) → not (a && disturbs p s k) ≡ true → not (a && moves p s k) ≡ true
@@ -40,23 +43,27 @@ all-steady p (e ∷ es) h k =
     let b = and-true (undisturbed p e) _ k in
     and-both _ _ (and-both _ _ (a .0) (moves-not (accepted e) p (e .before) (deed (e .asked)) (b .0))) (all-steady p es (a .1) (b .1))
 
-serves : (b : Board) (t : List ℕ) (c : Call) (x : Decoded) → decodeRequest (c .request) ≡ x → ByRules (eventOf b t c (serveDecoded b t x))
+-- ONE CALL, as an event by the rules
+
+serves : (b : Board) (t : List ℕ) (h : Handed) (x : Decoded) → decodeRequest (h .request) ≡ x → ByRules (eventOf b t h (serveDecoded b t x))
 unfolding serveDecoded
-serves b t c (Asked q) e = served q e refl (decode-encode (on-kept b (decode b t) q (on-decode b t)))
-serves b t c Bad e = refused refl refl
+serves b t h (Asked q) e = served q e refl (decode-encode (on-kept b (decode b t) q (on-decode b t)))
+serves b t h Bad e = refused refl refl
 
-opens : (b : Board) (t : List ℕ) (c : Call) → ByRules (eventOf b t c (door b t (c .request) (c .area)))
+opens : (b : Board) (t : List ℕ) (h : Handed) → ByRules (eventOf b t h (door b t (h .request) (h .area)))
 unfolding door
-opens b t c = if-case (λ r. ByRules (eventOf b t c r)) (eqb (length (c .area)) areaLength && soundTable b t) (λ e. serves b t c _ refl) (λ e. refused refl refl)
+opens b t h = if-case (λ r. ByRules (eventOf b t h r)) (eqb (length (h .area)) areaLength && soundTable b t) (λ e. serves b t h _ refl) (λ e. refused refl refl)
 
-run-by-rules : (b : Board) (t : List ℕ) (cs : List Call) → RunFrom (decode b t) (runOf b (door b) t cs)
+-- THE RUN
+
+run-by-rules : (b : Board) (t : List ℕ) (hs : List Handed) → RunFrom (decode b t) (runOf b (door b) t hs)
 unfolding runOf
 run-by-rules b t [] = tt
-run-by-rules b t (c ∷ cs) = (refl, opens b t c, run-by-rules b (door b t (c .request) (c .area) .table) cs)
+run-by-rules b t (h ∷ hs) = (refl, opens b t h, run-by-rules b (door b t (h .request) (h .area) .table) hs)
 
 pub demand3 : Demand3
-demand3 b t calls p from steps σ h k w i m =
-    let run = runOf b (door b) t calls in
-    let parts : take from run ++ (take steps (drop from run) ++ drop steps (drop from run)) ≡ run = rw (take-append-drop steps (drop from run), take-append-drop from run) in
-    fairness p (decode b t) (take from run) (take steps (drop from run)) (drop steps (drop from run)) (σ .state)
-    (rw parts (run-by-rules b t calls)) (rw parts (all-steady p run h k)) w i m
+demand3 b t hs p from steps σ same quiet full i m =
+    let run = runOf b (door b) t hs in
+    let rest = drop from run in
+    let parts : take from run ++ (take steps rest ++ drop steps rest) ≡ run = rw (take-append-drop steps rest, take-append-drop from run) in
+    fairness p (decode b t) (take from run) (take steps rest) (drop steps rest) (σ .state) (rw parts (run-by-rules b t hs)) (rw parts (all-steady p run same quiet)) full i m

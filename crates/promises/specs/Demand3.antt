@@ -16,32 +16,29 @@ use Rattle.rules.specs.Table.{decode}
 use Rattle.rules.specs.Requests.{decodeRequest}
 use Rattle.rules.specs.Sound.{SoundTable}
 use Rattle.rules.specs.Door.{Doored, door}
+use Rattle.promises.specs.Demand2.{Handed}
 use Rattle.fairness.specs.Run.{Event, readyAt, sameSet, undisturbed, sumTurns, chargedTo, chargedRank}
-
--- what is handed over with the table: any record and any answer area, so that a request, a tick too, may be refused with −7 or −8
-pub record Call : Type 0 where
-  pub request : List ℕ
-  pub area : List ℕ
 
 -- a door answers a table, a record and an area; the rules' is `door b`
 abbrev pub Door : Type 0
 Door = List ℕ → List ℕ → List ℕ → Doored
 
--- what a call that finds table t asks, and what the door makes of it
-abbrev pub eventOf : Board → List ℕ → Call → Doored → Event
-eventOf b t c r = record { before = decode b t; asked = decodeRequest (c .request); code = r .code; after = decode b (r .table) }
+-- what is asked of table t, and what the door makes of it
+abbrev pub eventOf : Board → List ℕ → Handed → Doored → Event
+eventOf b t h r = record { before = decode b t; asked = decodeRequest (h .request); code = r .code; after = decode b (r .table) }
 
--- "any run of requests and ticks": each call finds the table that the one before it leaves
-unfoldable pub runOf : Board → Door → List ℕ → List Call → List Event
+-- "any run of requests and ticks": any records and any answer areas, so that a request, a tick too, may be refused with −7 or −8;
+-- each finds the table that the one before it leaves
+unfoldable pub runOf : Board → Door → List ℕ → List Handed → List Event
 runOf b d t [] = []
-runOf b d t (c ∷ cs) = let r = d t (c .request) (c .area) in eventOf b t c r ∷ runOf b d (r .table) cs
+runOf b d t (h ∷ hs) = let r = d t (h .request) (h .area) in eventOf b t h r ∷ runOf b d (r .table) hs
 
 -- What the demand says of a door. Of an empty set it claims nothing, so that the set need not be said not to be empty.
 abbrev pub FairDoor : Board → Door → Type 0
 FairDoor b d =
-    (t : List ℕ) (calls : List Call) (p : ℕ) (from steps : ℕ) →
+    (t : List ℕ) (hs : List Handed) (p : ℕ) (from steps : ℕ) →
     let threads = decode b t .threads in
-    let run = runOf b d t calls in
+    let run = runOf b d t hs in
     -- "every unbroken part of the run"
     let part = take steps (drop from run) in
     -- "from any sound table"

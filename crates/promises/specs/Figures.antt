@@ -14,16 +14,17 @@ use Rattle.rules.specs.declared.Thread.{Thread}
 use Rattle.rules.specs.declared.Request.{Request}
 use Rattle.request.specs.Written.{written}
 use Rattle.fairness.specs.Run.{Event, sameSet, undisturbed, sumTurns, chargedTo, chargedRank}
-use Rattle.promises.specs.Demand3.{Call, Door, runOf}
+use Rattle.promises.specs.Demand2.{Handed}
+use Rattle.promises.specs.Demand3.{Door, runOf}
 
 -- requests, each as its record with an area of 8 bytes
-abbrev pub asks : List Request → List Call
+abbrev pub asks : List Request → List Handed
 asks rs = map (λ r. record { request = written r; area = cleanArea }) rs
 
 -- a run from a table, and which part of it is counted
 pub record Run : Type 0 where
   pub table : List ℕ
-  pub calls : List Call
+  pub handed : List Handed
   pub from : ℕ
   pub steps : ℕ
 
@@ -57,7 +58,7 @@ sharesFrom p i (t ∷ ts) part =
 unfoldable pub figures : Door → ℕ → Run → Figures
 figures d p r =
     let threads = decode printer (r .table) .threads in
-    let run = runOf printer d (r .table) (r .calls) in
+    let run = runOf printer d (r .table) (r .handed) in
     let part = take (r .steps) (drop (r .from) run) in
     record {
       sound = soundTable printer (r .table);

@@ -4,7 +4,7 @@
 -- only the other lane's seats come out. Such a rule does not meet demand 3.
 use mathlib.Core.Bool.{Bool, true, _&&_}
 use mathlib.Core.Path.{_≡_}
-use mathlib.Core.List.{List, [], _∷_, _++_, map}
+use mathlib.Core.List.{List, [], _∷_, _++_}
 use Prim.Native.Nat.{ℕ, zero, suc}
 use lib.Dec.{ltb}
 use Rattle.rules.specs.Basic.{if_then_else_}
@@ -12,11 +12,10 @@ use Rattle.rules.specs.Board.{printer}
 use Rattle.rules.specs.State.{State, at, caller, isReady, withThreads}
 use Rattle.rules.specs.Lines.{move}
 use Rattle.rules.specs.Table.{encode, decode}
-use Rattle.rules.specs.Cases.{tableAfter}
 use Rattle.rules.specs.Door.{door, freshTable}
 use Rattle.rules.specs.declared.Request.{Request}
 use Rattle.rules.specs.declared.Request.the-variants.{Create, Make, Pend, PostFromInterrupt, Tick}
-use Rattle.request.specs.Written.{written}
+use Rattle.promises.specs.Demand2.{tableAfter}
 use Rattle.promises.specs.Demand3.{Door, FairDoor}
 use Rattle.promises.specs.Figures.{asks, share, Figures, figures}
 
@@ -50,7 +49,7 @@ abbrev cutter : ℕ
 cutter = 3
 
 unfoldable pub lanes : List ℕ
-lanes = tableAfter (freshTable printer) (map written (Make 0 0 ∷ Create cutter 9 1 ∷ Pend 0 99999 ∷ Create left 5 2 ∷ Create right 5 2 ∷ []))
+lanes = tableAfter printer (freshTable printer) (asks (Make 0 0 ∷ Create cutter 9 1 ∷ Pend 0 99999 ∷ Create left 5 2 ∷ Create right 5 2 ∷ []))
 
 -- the cutter's interrupt posts; the cutter runs and waits again
 abbrev cut : List Request
@@ -71,7 +70,7 @@ cutAtOnce n = again n (cut ++ (Tick ∷ Tick ∷ []))
 
 -- the figures of the lanes' rank in a part of a run
 unfoldable pub counted : Door → List Request → ℕ → ℕ → Figures
-counted d rs from steps = figures d 5 (record { table = lanes; calls = asks rs; from = from; steps = steps })
+counted d rs from steps = figures d 5 (record { table = lanes; handed = asks rs; from = from; steps = steps })
 
 -- the premises hold; of n ticks charged to the rank the left lane has l and the right lane r
 abbrev lanesGet : ℕ → ℕ → ℕ → Figures

@@ -1,5 +1,6 @@
 -- Demand 3 at closed runs, from a table where threads 1 and 2 are ready at rank 5 with turns 2 and 3: a run that meets the premises while
--- a higher rank breaks in, the lock is on and ticks are refused; and runs that show that no premise can be dropped.
+-- a higher rank breaks in, the lock is on and ticks are refused; and a run each with a yield, a change of settings and a set that
+-- changes, in which the claim fails.
 use mathlib.Core.Bool.{Bool, true, false}
 use mathlib.Core.Path.{_≡_}
 use mathlib.Core.List.{List, [], _∷_, _++_, map}
@@ -8,22 +9,22 @@ use lib.IntN.{negsuc}
 use lib.ListN.{length, replicate, take, drop}
 use Rattle.rules.specs.Board.{printer}
 use Rattle.rules.specs.Trace.{cleanArea}
-use Rattle.rules.specs.Cases.{tableAfter}
 use Rattle.rules.specs.Door.{door, freshTable}
 use Rattle.rules.specs.declared.Request.{Request}
 use Rattle.rules.specs.declared.Request.the-variants.{Yield, Create, Delete, Set, Suspend, Resume, Lock, Unlock, Tick}
 use Rattle.request.specs.Written.{written}
-use Rattle.promises.specs.Demand3.{Call, runOf}
+use Rattle.promises.specs.Demand2.{Handed, tableAfter}
+use Rattle.promises.specs.Demand3.{runOf}
 use Rattle.promises.specs.Figures.{asks, Run, Share, share, Figures, figures, ownTurns}
 
 unfoldable pub start : List ℕ
-start = tableAfter (freshTable printer) (map written (Create 1 5 2 ∷ Create 2 5 3 ∷ []))
+start = tableAfter printer (freshTable printer) (asks (Create 1 5 2 ∷ Create 2 5 3 ∷ []))
 
 -- a tick that gets −8 for an object that it has no use for, and one that gets −7 for an area of 7 bytes
-abbrev badRecord : Call
+abbrev badRecord : Handed
 badRecord = record { request = 19 ∷ 1 ∷ replicate 10 0; area = cleanArea }
 
-abbrev badArea : Call
+abbrev badArea : Handed
 badArea = record { request = written Tick; area = replicate 7 0 }
 
 -- Thread 3 breaks in at rank 9, is charged two ticks and goes; a tick under lock and the two refused ones are charged to nobody.
@@ -31,7 +32,7 @@ badArea = record { request = written Tick; area = replicate 7 0 }
 unfoldable pub brokenInto : Run
 brokenInto = record {
   table = start;
-  calls =
+  handed =
       asks (Tick ∷ Create 3 9 1 ∷ Tick ∷ Tick ∷ Delete 3 ∷ Lock ∷ Tick ∷ Unlock ∷ [])
       ++ (badRecord ∷ badArea ∷ asks (Tick ∷ Tick ∷ Tick ∷ Tick ∷ Tick ∷ []));
   from = 1;
@@ -40,7 +41,7 @@ brokenInto = record {
 
 -- a run that is counted as a whole
 abbrev whole : List Request → Run
-whole rs = record { table = start; calls = asks rs; from = 0; steps = length rs }
+whole rs = record { table = start; handed = asks rs; from = 0; steps = length rs }
 
 pub record Case : Type 0 where
   pub run : Run
@@ -74,7 +75,7 @@ Rounds = map given table ≡ map expected table
 
 -- the two ticks of the first run are refused as said
 abbrev pub RefusedTicks : Type 0
-RefusedTicks = map (λ e. e .code) (take 2 (drop 8 (runOf printer (door printer) start (brokenInto .calls)))) ≡ negsuc 7 ∷ negsuc 6 ∷ []
+RefusedTicks = map (λ e. e .code) (take 2 (drop 8 (runOf printer (door printer) start (brokenInto .handed)))) ≡ negsuc 7 ∷ negsuc 6 ∷ []
 
 -- demand 3, as a theorem, says of the first run what counting says: each thread is charged its own turn
 abbrev pub Applied : Type 0
