@@ -65,10 +65,10 @@ good p n s σ below = record {
   ];
   head = λ j e.
       let m = placed-in p ts j (omega arith) in
-      rw (view-in p ts j m) (member-sound p s j σ m .first (in-ready p (at ts j) m .0) (sym (ap (λ c. c .place) (view-in p ts j m)) ∙ e));
+      rw (view-in p ts j m) (member-sound p s j σ m .first (in-ready p (at ts j) .0 m .0) (sym (ap (λ c. c .place) (view-in p ts j m)) ∙ e));
   later = λ j h.
       let m = placed-in p ts j (omega arith) in
-      rw (view-in p ts j m) (member-sound p s j σ m .later (in-ready p (at ts j) m .0) (rw (view-in p ts j m) at h), member-sound p s j σ m .turn .0);
+      rw (view-in p ts j m) (member-sound p s j σ m .later (in-ready p (at ts j) .0 m .0) (rw (view-in p ts j m) at h), member-sound p s j σ m .turn .0);
   apart = λ i j h e.
       let m = placed-in p ts i h in
       let k = placed-in p ts j (omega arith) in
@@ -167,7 +167,7 @@ module _ (p r : ℕ) (ts : List Thread) (m : inLine (ready p) (at ts r) ≡ true
 
   back-r : at (back r ts) r ≡ withCounter (at ts r .turn) (withPlace (lineLength (ready p) ts) (at ts r))
   unfolding back
-  back-r = rw (move-self r (λ t. t) ts r<, tail-place, in-ready p (at ts r) m .0)
+  back-r = rw (move-self r (λ t. t) ts r<, tail-place, in-ready p (at ts r) .0 m .0)
 
   back-in : inLine (ready p) (at (back r ts) r) ≡ true
   back-in = rw (back-r, line-counter) m

@@ -7,7 +7,6 @@ pub mod Lines
 pub mod Members
 pub mod Moves
 pub mod Placed
-pub mod Standing
 pub mod Places
 pub mod Records
 pub mod Tested

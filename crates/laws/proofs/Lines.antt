@@ -1,16 +1,19 @@
 -- What the tests of lines say, and which changes of a record leave its line alone: by cases on the wait. Assumes nothing.
 use mathlib.Core.Bool.{Bool, true, false, not, _&&_}
 use mathlib.Core.Path.{_≡_, refl, ap, sym, _∙_}
+use mathlib.Core.Logic.{_↔_}
 use Prim.Native.Nat.{ℕ}
 use lib.Dec.{eqb}
 use borrow.Author.Tests.{eqb-true, eq-eqb, not-false}
 use Rattle.rules.specs.Basic.{if_then_else_}
 use Rattle.rules.specs.State.{waiting, isReady, withPlace, withCounter, withCounterOf, withSuspended, withSettings}
+use Rattle.rules.specs.Test.{isNowhere}
 use Rattle.rules.specs.Lines.{Line, nowhere, ready, waiters, senders, same, waitLine, line, inLine, filled}
 use Rattle.rules.specs.declared.Thread.{Thread}
 use Rattle.rules.specs.declared.Wait.{Wait}
 use Rattle.rules.specs.declared.Wait.the-variants.{Nothing, Delay, Receive, Send, Semaphore}
-use Rattle.laws.proofs.Split.{Is, is, isnt, test, clash, if-case}
+use Rattle.laws.proofs.Split.{is, isnt, test, clash, and-true, if-case}
+use Rattle.laws.proofs.Reflect.{reflect}
 
 pub same-eq : (a b : Line) → same a b ≡ true → a ≡ b
 same-eq nowhere b e = absurd (clash e refl)
@@ -33,6 +36,25 @@ same-nowhere (ready p) = refl
 same-nowhere (waiters p) = refl
 same-nowhere (senders p) = refl
 
+-- a line is itself, and who is in it is somewhere
+pub same-self : (a : Line) → isNowhere a ≡ false → same a a ≡ true
+same-self nowhere e = absurd (clash refl e)
+same-self (ready p) e = eq-eqb p p refl
+same-self (waiters k) e = eq-eqb k k refl
+same-self (senders i) e = eq-eqb i i refl
+
+pub same-somewhere : (a b : Line) → same a b ≡ true → isNowhere a ≡ false
+same-somewhere nowhere b e = absurd (clash e refl)
+same-somewhere (ready p) b e = refl
+same-somewhere (waiters k) b e = refl
+same-somewhere (senders i) b e = refl
+
+pub is-nowhere : (a : Line) → isNowhere a ≡ true → a ≡ nowhere
+is-nowhere nowhere e = refl
+is-nowhere (ready p) e = absurd (clash e refl)
+is-nowhere (waiters k) e = absurd (clash e refl)
+is-nowhere (senders i) e = absurd (clash e refl)
+
 pub lines-apart : (a b c : Line) → same a c ≡ true → same b c ≡ false → same a b ≡ false
 lines-apart a b c p q = elim (test (same a b)) [
   | is e ↦ absurd (clash p (rw (same-eq a b e) q))
@@ -52,36 +74,25 @@ wait-out p true s (Semaphore k n) q e = refl
 pub waiting-out : (p : ℕ) (t : Thread) → waiting (t .wait) ≡ true → inLine (ready p) t ≡ false
 waiting-out p t e = wait-out p (t .used) (t .suspended) (t .wait) (t .priority) e
 
-ready-in : (p : ℕ) (u s : Bool) (w : Wait) (q : ℕ) → same (if u then waitLine w s q else nowhere) (ready p) ≡ true → (u && not s && not (waiting w) ≡ true) × (q ≡ p)
-ready-in p false s w q e = absurd (clash e refl)
-ready-in p true true (Nothing n) q e = absurd (clash e refl)
-ready-in p true false (Nothing n) q e = (refl, eqb-true q p e)
-ready-in p true s (Delay n) q e = absurd (clash e refl)
-ready-in p true s (Receive n) q e = absurd (clash e refl)
-ready-in p true s (Send k n) q e = absurd (clash e refl)
-ready-in p true s (Semaphore k n) q e = absurd (clash e refl)
+-- the members of a ready line are the ready threads of its priority
+pub in-ready : (p : ℕ) (t : Thread) → inLine (ready p) t ≡ true ↔ ((isReady t ≡ true) × (t .priority ≡ p))
+in-ready p t = go (t .used) (t .suspended) (t .wait) (t .priority)
+  where
+    go : (u s : Bool) (w : Wait) (q : ℕ) → same (if u then waitLine w s q else nowhere) (ready p) ≡ true ↔ ((u && not s && not (waiting w) ≡ true) × (q ≡ p))
+    go false s w q = (λ e. absurd (clash e refl), λ h. h .0)
+    go true true (Nothing n) q = (λ e. absurd (clash e refl), λ h. h .0)
+    go true false (Nothing n) q = (λ e. (refl, eqb-true q p e), λ h. eq-eqb q p (h .1))
+    go true s (Delay n) q = (λ e. absurd (clash e refl), λ h. and-true (not s) false (h .0) .1)
+    go true s (Receive n) q = (λ e. absurd (clash e refl), λ h. and-true (not s) false (h .0) .1)
+    go true s (Send to n) q = (λ e. absurd (clash e refl), λ h. and-true (not s) false (h .0) .1)
+    go true s (Semaphore on n) q = (λ e. absurd (clash e refl), λ h. and-true (not s) false (h .0) .1)
 
-pub in-ready : (p : ℕ) (t : Thread) → inLine (ready p) t ≡ true → (isReady t ≡ true) × (t .priority ≡ p)
-in-ready p t e = ready-in p (t .used) (t .suspended) (t .wait) (t .priority) e
-
-ready-line : (u s : Bool) (w : Wait) (q : ℕ) → u && not s && not (waiting w) ≡ true → _≡_ {A = Line} (if u then waitLine w s q else nowhere) (ready q)
-ready-line false s w q e = absurd (clash e refl)
-ready-line true true w q e = absurd (clash e refl)
-ready-line true false (Nothing n) q e = refl
-ready-line true false (Delay n) q e = absurd (clash e refl)
-ready-line true false (Receive n) q e = absurd (clash e refl)
-ready-line true false (Send x n) q e = absurd (clash e refl)
-ready-line true false (Semaphore x n) q e = absurd (clash e refl)
-
-pub line-ready : (t : Thread) → isReady t ≡ true → line t ≡ ready (t .priority)
-line-ready t e = ready-line (t .used) (t .suspended) (t .wait) (t .priority) e
-
-pub ready-at : (p : ℕ) (t : Thread) → isReady t ≡ true → t .priority ≡ p → inLine (ready p) t ≡ true
-ready-at p t e k = rw (line-ready t e) (eq-eqb (t .priority) p k)
+pub ready-used : (t : Thread) → isReady t ≡ true → t .used ≡ true
+ready-used t r = let x = simp reflect at r in x .0 .0
 
 pub unready-out : (p : ℕ) (t : Thread) → isReady t ≡ false → inLine (ready p) t ≡ false
 unready-out p t e = elim (test (inLine (ready p) t)) [
-  | is m ↦ absurd (clash (in-ready p t m .0) e)
+  | is m ↦ absurd (clash (in-ready p t .0 m .0) e)
   | isnt m ↦ m
 ]
 

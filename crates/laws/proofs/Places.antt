@@ -19,7 +19,7 @@ use Rattle.rules.specs.declared.Thread.{Thread}
 use Rattle.laws.proofs.Split.{Is, is, isnt, test}
 use Rattle.laws.proofs.Reflect.{reflect}
 use Rattle.laws.proofs.Counts.{within, find-low, count-in, count-some, count-apart, count-most, count-as, count-split}
-use Rattle.laws.proofs.Standing.{same-eq, same-self, same-somewhere, is-nowhere, in-ready}
+use Rattle.laws.proofs.Lines.{same-eq, same-self, same-somewhere, is-nowhere, in-ready}
 
 -- at place q of line l
 pub stands : (l : Line) (q : ℕ) (t : Thread) → standsAt l q t ≡ true ↔ ((inLine l t ≡ true) × (t .place ≡ q))

@@ -16,7 +16,7 @@ use Rattle.rules.specs.Sound.{Lines, Sound}
 use Rattle.rules.specs.declared.Thread.{Thread}
 use Rattle.laws.proofs.Split.{is, isnt, test}
 use Rattle.laws.proofs.Counts.{within, count-in, find-hit}
-use Rattle.laws.proofs.Standing.{in-ready, ready-used}
+use Rattle.laws.proofs.Lines.{in-ready, ready-used}
 use Rattle.laws.proofs.Places.{stands, first-there}
 
 -- thread i is the first of the highest ready line that is not empty

@@ -21,7 +21,7 @@ use Rattle.rules.specs.declared.Refusal.the-variants.{BadOperation}
 use Rattle.rules.specs.declared.Wait.{Wait}
 use Rattle.laws.proofs.Split.{and-off, or-false, if-case}
 use Rattle.laws.proofs.Reflect.{reflect}
-use Rattle.laws.proofs.Standing.{ready-used}
+use Rattle.laws.proofs.Lines.{ready-used}
 use Rattle.preservation.proofs.Fit.{Meets, meets-move}
 use Rattle.preservation.proofs.Changes.{Begins, fit-begun}
 use Rattle.preservation.proofs.Settled.{Unsettled, asks, sound-meets, settled, kept-threads}

@@ -22,7 +22,7 @@ use Rattle.rules.specs.declared.Wait.{Wait}
 use Rattle.rules.specs.declared.Wait.the-variants.{Nothing, Delay, Receive, Send, Semaphore}
 use Rattle.laws.proofs.Split.{and-true, and-both, if-case}
 use Rattle.laws.proofs.Reflect.{reflect}
-use Rattle.laws.proofs.Standing.{ready-used}
+use Rattle.laws.proofs.Lines.{ready-used}
 use Rattle.laws.proofs.Members.{set-each}
 use Rattle.laws.proofs.Counts.{count-in}
 use Rattle.laws.proofs.Top.{Top, top-highest}

@@ -15,11 +15,10 @@ use Rattle.rules.specs.declared.Wait.{Wait}
 use Rattle.rules.specs.declared.Wait.the-variants.{Delay}
 use Rattle.rules.specs.declared.Outcome.the-variants.{Failed}
 use Rattle.laws.proofs.Split.{clash}
-use Rattle.laws.proofs.Lines.{filled-field, line-filled, line-settings, line-suspended}
 use Rattle.laws.proofs.Members.{used-range}
 use Rattle.laws.proofs.Placed.{move-count}
 use Rattle.laws.proofs.Reflect.{reflect}
-use Rattle.laws.proofs.Standing.{ready-used}
+use Rattle.laws.proofs.Lines.{ready-used, filled-field, line-filled, line-settings, line-suspended}
 use Rattle.preservation.proofs.Fit.{Fit, Meets, ready-parts, fit-tail, meets-move, meets-edit}
 use Rattle.preservation.proofs.Changes.{Begins, fit-lifted, fit-created, fit-free, fit-settings, fit-stopped, fit-suspended, fit-resumed}
 use Rattle.preservation.proofs.Waits.{meets-end, meets-serve, mailbox, serve-count}

@@ -14,8 +14,7 @@ use Rattle.rules.specs.Sound.{Sound}
 use Rattle.rules.specs.declared.Thread.{Thread}
 use Rattle.laws.proofs.Split.{if-case}
 use Rattle.laws.proofs.Reflect.{reflect}
-use Rattle.laws.proofs.Lines.{line-counter}
-use Rattle.laws.proofs.Standing.{ready-used}
+use Rattle.laws.proofs.Lines.{ready-used, line-counter}
 use Rattle.preservation.proofs.Fit.{Asks, Meets, waits-used, meets-move, meets-edit}
 use Rattle.preservation.proofs.Changes.{fit-lifted, fit-counted, fit-charged}
 use Rattle.preservation.proofs.Waits.{meets-end}
