@@ -1,0 +1,32 @@
+//! The independent model of the kernel: document 01's rules over explicit queues, one queue for
+//! each line. It is written from the documents only and shares no text with the proved kernel,
+//! which is compared with it byte for byte.
+
+mod door;
+mod kernel;
+mod mail;
+mod names;
+mod random_record;
+mod random_table;
+mod request;
+mod rng;
+mod semaphores;
+mod show;
+mod sound;
+mod table;
+mod threads;
+mod time;
+mod trace;
+
+pub use door::{door, AREA};
+pub use names::{code, operation, outcome, wait};
+pub use names::{DEEPEST_LOCK, FOREVER, FULL_COUNT, INIT, LONGEST};
+pub use names::{PRIORITIES, SEMAPHORES, THREADS};
+pub use random_record::random_record;
+pub use random_table::{random_sound, spoil};
+pub use request::{record, uses, Uses, RECORD};
+pub use rng::Rng;
+pub use show::{show, show_record};
+pub use sound::sound;
+pub use table::{at, fresh, word, TABLE, WIDTH};
+pub use trace::{trace, trace_to};

@@ -1,0 +1,199 @@
+//! Demand 3, counted from outside: "over any run of requests and ticks in which one rank's set of
+//! ready threads isn't empty at the start and is the same after each step, none of them yields
+//! and none is named in an accepted change of settings [...] in every unbroken part of the run
+//! where the ticks charged to that rank equal the sum of the threads' turns, each thread was
+//! charged exactly its own turn." Charges are counted from the run, not from stored counters.
+
+mod common;
+
+use std::collections::VecDeque;
+
+use common::*;
+use model::{operation as op, random_record, random_sound, word, Rng};
+
+/// Which accepted Yields end the premise.
+#[derive(Clone, Copy, PartialEq)]
+enum Yields {
+    /// Each by a member of the rank, as the demand is worded.
+    All,
+    /// Only those with lock 0: a weaker premise, from which the worded one follows.
+    Unlocked,
+}
+
+/// What is seen of one rank since its premise last began to hold.
+#[derive(Clone, Default)]
+struct Rank {
+    /// The latest charges, at most as many as the sum of the turns.
+    charges: VecDeque<usize>,
+    /// How many of these went to each thread.
+    charged: [u32; 16],
+    /// How many ticks since the first charge were charged to another rank or to nobody.
+    strangers: u32,
+}
+
+/// The windows in which a rank's charges made the sum of its turns.
+#[derive(Default, Debug)]
+struct Windows {
+    checked: u32,
+    of_two_or_more: u32,
+    broken_off: u32,
+}
+
+/// The ready threads of each rank, as bits.
+fn ready_sets(board: &Board) -> [u16; 32] {
+    let mut sets = [0; 32];
+    for i in 0..16 {
+        let record = board.record(i);
+        if record[0] == 1 && record[2] == 0 && record[3] == 0 {
+            sets[usize::from(record[1])] |= 1 << i;
+        }
+    }
+    sets
+}
+
+fn members(set: u16) -> impl Iterator<Item = usize> {
+    (0..16).filter(move |i| set >> i & 1 == 1)
+}
+
+fn turn(board: &Board, i: usize) -> u32 {
+    word(board.record(i), 8)
+}
+
+struct Watch {
+    yields: Yields,
+    ranks: Vec<Rank>,
+    windows: Windows,
+}
+
+impl Watch {
+    fn new(yields: Yields) -> Watch {
+        Watch {
+            yields,
+            ranks: vec![Rank::default(); 32],
+            windows: Windows::default(),
+        }
+    }
+
+    /// Makes a step and looks at every rank.
+    fn step(&mut self, board: &mut Board, record: &[u8; 12]) {
+        let before = board.clone();
+        let (code, _) = board.ask(record);
+        let accepted_tick = record[0] == op::TICK && code == 0;
+        // "An accepted tick is charged to the thread that was running, to nobody while the lock
+        // is on; a refused one to nobody."
+        let charged = (accepted_tick && before.lock() == 0).then(|| before.running());
+        let (old, new) = (ready_sets(&before), ready_sets(board));
+        for rank in 0..32 {
+            let set = old[rank];
+            if set == new[rank] && set != 0 && !self.ends(&before, record, code, set) {
+                self.see(rank, set, accepted_tick, charged, board);
+            } else {
+                self.ranks[rank] = Rank::default();
+            }
+        }
+    }
+
+    /// Whether a member of the set yields or is named in an accepted change of settings.
+    fn ends(&self, before: &Board, record: &[u8; 12], code: i32, set: u16) -> bool {
+        let is_member = |i: usize| set >> i & 1 == 1;
+        let counts = self.yields == Yields::All || before.lock() == 0;
+        match record[0] {
+            op::YIELD => code == 0 && counts && is_member(before.running()),
+            op::SET => code == 0 && is_member(usize::from(record[1])),
+            _ => false,
+        }
+    }
+
+    fn see(&mut self, rank: usize, set: u16, tick: bool, charged: Option<usize>, board: &Board) {
+        let seen = &mut self.ranks[rank];
+        let Some(thread) = charged.filter(|&i| set >> i & 1 == 1) else {
+            seen.strangers += u32::from(tick && !seen.charges.is_empty());
+            return;
+        };
+        let sum: u32 = members(set).map(|i| turn(board, i)).sum();
+        seen.charges.push_back(thread);
+        seen.charged[thread] += 1;
+        if seen.charges.len() > sum as usize {
+            let oldest = seen.charges.pop_front().expect("the window is not empty");
+            seen.charged[oldest] -= 1;
+        }
+        if seen.charges.len() == sum as usize {
+            let fair = members(set).all(|i| seen.charged[i] == turn(board, i));
+            let charges = &seen.charges;
+            let text = || model::show(&board.table);
+            assert!(
+                fair,
+                "rank {rank}: the last {sum} charges are {charges:?}\n{}",
+                text()
+            );
+            self.windows.checked += 1;
+            self.windows.of_two_or_more += u32::from(set.count_ones() > 1);
+            self.windows.broken_off += u32::from(seen.strangers > 0 && set.count_ones() > 1);
+        }
+    }
+}
+
+/// A run in which a record is a tick `ticks` times in 32.
+fn run(watch: &mut Watch, rng: &mut Rng, board: &mut Board, steps: usize, ticks: usize) {
+    for _ in 0..steps {
+        let record = match rng.below(32) {
+            part if part < ticks => tick(),
+            part if part == 31 && board.lock() > 0 => unlock(),
+            _ => random_record(rng, &board.table),
+        };
+        watch.step(board, &record);
+    }
+}
+
+#[test]
+fn runs_from_fresh_are_fair() {
+    for yields in [Yields::All, Yields::Unlocked] {
+        let mut windows = Windows::default();
+        for seed in 0..120 {
+            let mut rng = Rng::new(5_000 + seed);
+            let mut watch = Watch::new(yields);
+            let ticks = rng.pick(&[12, 24, 28, 30]);
+            run(&mut watch, &mut rng, &mut Board::fresh(), 1_000, ticks);
+            windows.checked += watch.windows.checked;
+            windows.of_two_or_more += watch.windows.of_two_or_more;
+            windows.broken_off += watch.windows.broken_off;
+        }
+        println!("{windows:?}");
+        assert!(windows.of_two_or_more > 2_000, "{windows:?}");
+        assert!(windows.broken_off > 500, "{windows:?}");
+    }
+}
+
+#[test]
+fn runs_from_random_sound_tables_are_fair() {
+    for yields in [Yields::All, Yields::Unlocked] {
+        let mut windows = Windows::default();
+        for seed in 0..1_500 {
+            let mut rng = Rng::new(9_000 + seed);
+            let table = random_sound(&mut rng);
+            let mut watch = Watch::new(yields);
+            let ticks = rng.pick(&[20, 26, 30, 31]);
+            run(&mut watch, &mut rng, &mut Board { table }, 120, ticks);
+            windows.checked += watch.windows.checked;
+            windows.of_two_or_more += watch.windows.of_two_or_more;
+            windows.broken_off += watch.windows.broken_off;
+        }
+        println!("{windows:?}");
+        assert!(windows.of_two_or_more > 2_000, "{windows:?}");
+        assert!(windows.broken_off > 500, "{windows:?}");
+    }
+}
+
+/// The longest turn beside the shortest: every window of 100,000 charges holds 99,999 and 1.
+#[test]
+fn the_longest_and_the_shortest_turn_are_fair() {
+    let mut board = Board::fresh();
+    let mut watch = Watch::new(Yields::All);
+    for record in [create(1, 5, 99_999), create(2, 5, 1)] {
+        watch.step(&mut board, &record);
+    }
+    for _ in 0..150_000 {
+        watch.step(&mut board, &tick());
+    }
+    assert_eq!(watch.windows.of_two_or_more, 50_001);
+}
