@@ -1,0 +1,37 @@
+-- What is printed of the example run, of numbers at their bounds and of the longest lines: by computation. Assumes nothing.
+use mathlib.Core.Path.{_≡_, refl}
+use lib.IntN.{negsuc}
+use lib.ListN.{length}
+use Rattle.rules.specs.Lines.{leave, join, move, topBelow, top, settle}
+use Rattle.rules.specs.Table.{waitOf, outcomeOf, threadRow, threadOf, semRow, semOf, kernelRow, flat, encode, rows, decode}
+use Rattle.rules.specs.Test.{placeOk, freeOk, usedOk, threadOk, semOk, initOk, kernelOk, sound, soundTable}
+use Rattle.rules.specs.Answers.{areaOf}
+use Rattle.rules.specs.Requests.{requestOf, decodeRequest}
+use Rattle.rules.specs.Waiting.{endWait, serve, block, mustWait}
+use Rattle.rules.specs.Threads.{doYield, doCreate, deleted, doDelete, doSet, doSuspend, doResume, doDelay, breakOff, doCancel}
+use Rattle.rules.specs.Mail.{delivered, doSend, doSendFromInterrupt, emptied, doReceive}
+use Rattle.rules.specs.Semaphores.{doMake, doDrop, doPend, doAbort, posted, doPost, doPostFromInterrupt}
+use Rattle.rules.specs.Time.{doLock, doUnlock, charge, charged, countDown, timeouts, doTick, doOutcome}
+use Rattle.rules.specs.Steps.{step}
+use Rattle.rules.specs.Door.{serveDecoded, door, fresh, freshTable}
+use Rattle.rules.specs.Trace.{served, short, records, traceFrom, trace}
+use Rattle.listing.specs.Text.{ascii, digits, decimal, codeText, lineText}
+use Rattle.listing.specs.Puts.{lineRoom, shortRoom}
+use Rattle.listing.specs.Example.{ExampleRun}
+
+pub example-run : ExampleRun
+unfolding leave join move topBelow top settle waitOf outcomeOf threadRow threadOf semRow semOf kernelRow flat encode rows decode placeOk freeOk usedOk threadOk semOk initOk kernelOk sound soundTable areaOf requestOf decodeRequest endWait serve block mustWait doYield doCreate deleted doDelete doSet doSuspend doResume doDelay breakOff doCancel delivered doSend doSendFromInterrupt emptied doReceive doMake doDrop doPend doAbort posted doPost doPostFromInterrupt doLock doUnlock charge charged countDown timeouts doTick doOutcome step serveDecoded door fresh freshTable records traceFrom trace digits decimal
+example-run = refl
+
+pub numbers :
+    (decimal 0 ≡ ascii "0") × (decimal 9 ≡ ascii "9") × (decimal 10 ≡ ascii "10") × (decimal 4294967295 ≡ ascii "4294967295")
+    × (decimal 18446744073709551615 ≡ ascii "18446744073709551615") × (codeText (negsuc 7) ≡ ascii "-8")
+unfolding digits decimal
+numbers = (refl, refl, refl, refl, refl, refl)
+
+-- the room asked for is the least that does: these lines fill it
+pub filled :
+    (length (lineText (served 18446744073709551615 (negsuc 2147483647) 4294967295 255)) ≡ lineRoom)
+    × (length (lineText (short 18446744073709551615)) ≡ shortRoom)
+unfolding digits decimal
+filled = (refl, refl)

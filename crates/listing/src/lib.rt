@@ -1,0 +1,81 @@
+// The lines that the trace program prints, put into a lent buffer one after the other. Each function puts its text from
+// place `at` on, leaves every other byte, and answers the place after it.
+ghost use mathlib.Core.Path.{_≡_};
+ghost use mathlib.Core.List.{[], _∷_, _++_};
+ghost use Prim.Native.Nat.{_+_, _≤_, _<_};
+ghost use lib.ListN.{length};
+ghost use Rattle.rules.specs.Trace.{served, short};
+ghost use Rattle.listing.specs.Text.{decimal, codeText, lineText};
+ghost use Rattle.listing.specs.Puts.{Puts, lineRoom, shortRoom};
+
+fn put_byte(out: &mut [u8], at: usize, byte: u8) -> usize
+    requires { ⌜ at < length (now out) ⌝ }
+    ensures { λ next. ⌜ Puts (now (out .entry)) at (byte ∷ []) (now (out .exit)) next ⌝ }
+{
+    out[at] = byte;
+    at + 1
+}
+
+// The digits before the last, then the last.
+fn put_number(out: &mut [u8], at: usize, n: u64) -> usize
+    requires { ⌜ at + length (decimal n) ≤ length (now out) ⌝ }
+    ensures { λ next. ⌜ Puts (now (out .entry)) at (decimal n) (now (out .exit)) next ⌝ }
+{
+    if n < 10 {
+        put_byte(out, at, b'0' + n as u8)
+    } else {
+        let last = put_number(out, at, n / 10);
+        put_byte(out, last, b'0' + (n % 10) as u8)
+    }
+}
+
+// A number and the byte after it.
+fn put_field(out: &mut [u8], at: usize, n: u64, after: u8) -> usize
+    requires { ⌜ at + length (decimal n) < length (now out) ⌝ }
+    ensures { λ next. ⌜ Puts (now (out .entry)) at (decimal n ++ (after ∷ [])) (now (out .exit)) next ⌝ }
+    ensures { λ next. ⌜ next ≡ at + length (decimal n) + 1 ⌝ }
+{
+    let end = put_number(out, at, n);
+    put_byte(out, end, after)
+}
+
+// The other side of −2^31 has no place in an i32, so it is taken in an i64.
+fn put_code(out: &mut [u8], at: usize, code: i32) -> usize
+    requires { ⌜ at + length (codeText code) ≤ length (now out) ⌝ }
+    ensures { λ next. ⌜ Puts (now (out .entry)) at (codeText code) (now (out .exit)) next ⌝ }
+{
+    if code < 0 {
+        let first = put_byte(out, at, b'-');
+        put_number(out, first, (0 - code as i64) as u64)
+    } else {
+        put_number(out, at, code as u64)
+    }
+}
+
+// The line of a record that was served.
+pub fn put_line(out: &mut [u8], at: usize, number: u64, code: i32, value: u32, running: u8) -> usize
+    requires { ⌜ at + lineRoom ≤ length (now out) ⌝ }
+    ensures { λ next. ⌜ Puts (now (out .entry)) at (lineText (served number code value running)) (now (out .exit)) next ⌝ }
+    ensures { λ next. ⌜ next ≤ at + lineRoom ⌝ }
+{
+    let a = put_field(out, at, number, b' ');
+    let b = put_code(out, a, code);
+    let c = put_byte(out, b, b' ');
+    let d = put_field(out, c, value as u64, b' ');
+    put_field(out, d, running as u64, b'\n')
+}
+
+// The last line, of left-over bytes.
+pub fn put_short(out: &mut [u8], at: usize, n: usize) -> usize
+    requires { ⌜ at + shortRoom ≤ length (now out) ⌝ }
+    ensures { λ next. ⌜ Puts (now (out .entry)) at (lineText (short n)) (now (out .exit)) next ⌝ }
+    ensures { λ next. ⌜ next ≤ at + shortRoom ⌝ }
+{
+    out[at] = b's';
+    out[at + 1] = b'h';
+    out[at + 2] = b'o';
+    out[at + 3] = b'r';
+    out[at + 4] = b't';
+    out[at + 5] = b' ';
+    put_field(out, at + 6, n as u64, b'\n')
+}

@@ -1,0 +1,2 @@
+-- What callers use of a reading.
+pub mod Means

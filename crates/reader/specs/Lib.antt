@@ -1,0 +1,2 @@
+-- What a reader finds in a trace.
+pub mod Reading
