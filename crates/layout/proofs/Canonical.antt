@@ -10,7 +10,7 @@ use native.Mathlib.Decide.{ℕ-discrete}
 use borrow.Author.Tests.{eq-eqb, ne-eqb, eqb-true, le-leb, lt-leb, leb-true}
 use lib.Dec.{eqb, leb}
 use lib.ListN.{length, getD, take, drop, length-drop, take-append-drop, replicate, getD-replicate}
-use lib.Seq.{take-all, length-take-le, getD-take, getD-drop, drop-drop}
+use lib.Seq.{take-all, getD-drop, drop-drop}
 use Rattle.rules.specs.Basic.{if_then_else_, bit, allBelow}
 use Rattle.rules.specs.Board.{Board, recordLength, tableLength}
 use Rattle.rules.specs.State.{State, On, at, semAt, counterOf}
@@ -22,7 +22,7 @@ use Rattle.rules.specs.declared.Outcome.the-variants.{Done, NoneYet, Failed}
 use Rattle.laws.proofs.Split.{and-true}
 use Rattle.layout.specs.Bytes.{semsFrom, kernelFrom, tabulate, recordAt}
 use Rattle.layout.specs.Canon.{waitCanon, outcomeCanon, headCanon, threadCanon, restZero, semCanon, Canon}
-use Rattle.layout.proofs.Records.{length-record, record-byte, record-is, length-encode, thread-byte, sem-byte, kernel-byte}
+use Rattle.layout.proofs.Records.{record-is, record-part, record-behind, length-encode, thread-byte, sem-byte, kernel-byte}
 use Rattle.layout.proofs.RoundTrip.{on-decode}
 
 -- FIELDS
@@ -128,17 +128,6 @@ sem-of t base ok =
     sym (pair-of t base _ _ (rw first (sym (bit-of (getD t base 0) (a .0)))) refl (a .1))
 
 -- THE TABLE
-
--- a record is a part of the table
-record-part : (t : List ℕ) (base : ℕ) → base + recordLength ≤ length t → recordAt t base ≡ take recordLength (drop base t)
-record-part t base h =
-    record-is _ t base (length-take-le recordLength (drop base t) (omega (arith, length-drop base t)))
-    (λ k q. sym (getD-take recordLength (drop base t) k 0 q ∙ getD-drop base t k 0))
-
-record-behind : (t : List ℕ) (n base : ℕ) → recordAt (drop n t) base ≡ recordAt t (n + base)
-record-behind t n base =
-    sym (record-is (recordAt (drop n t) base) t (n + base) (length-record (drop n t) base)
-    (λ k q. let e : n + base + k ≡ n + (base + k) = omega arith in rw (e, record-byte (drop n t) base k q) (sym (getD-drop n t (base + k) 0))))
 
 -- records that are rows of what they say make up the table's front
 module _ {A : Type 0} (row : A → List ℕ) (of : List ℕ → A) where

@@ -3,7 +3,7 @@
 use mathlib.Core.Path.{_≡_, refl, sym, ap, _∙_}
 use mathlib.Core.Bool.{Bool, true, false}
 use mathlib.Core.List.{List, [], _∷_, _++_, map, append-assoc}
-use Prim.Native.Nat.{ℕ, zero, suc, _+_, _*_, _/_, _%_, _<_}
+use Prim.Native.Nat.{ℕ, zero, suc, _+_, _*_, _/_, _%_}
 use native.Mathlib.Omega.{arith}
 use borrow.Author.Tests.{eq-eqb, eqb-true}
 use lib.ListN.{length, getD, drop}
@@ -11,7 +11,7 @@ use lib.Seq.{take-at, drop-at}
 use lib.Dec.{eqb}
 use Rattle.rules.specs.Basic.{bit, sameBytes}
 use Rattle.rules.specs.Board.{Board, recordLength}
-use Rattle.rules.specs.State.{State, On, at, semAt, counterOf}
+use Rattle.rules.specs.State.{State, On, counterOf}
 use Rattle.rules.specs.Table.{kindOf, objectOf, waitOf, outcomeByte, outcomeOf, isOne, threadRow, threadOf, semRow, semOf, kernelRow, flat, encode, rows, decode}
 use Rattle.rules.specs.declared.Thread.{Thread}
 use Rattle.rules.specs.declared.Sem.{Sem}
@@ -20,9 +20,9 @@ use Rattle.rules.specs.declared.Wait.the-variants.{Nothing, Delay, Receive, Sen
 use Rattle.rules.specs.declared.Outcome.{Outcome}
 use Rattle.rules.specs.declared.Outcome.the-variants.{Done, NoneYet, Failed}
 use Rattle.laws.proofs.Split.{clash, and-true, and-both}
-use Rattle.layout.specs.Bytes.{semsFrom, recordAt}
+use Rattle.layout.specs.Bytes.{semsFrom}
 use Rattle.layout.proofs.Flat.{length-flat}
-use Rattle.layout.proofs.Records.{thread-wide, sem-wide, thread-record, sem-record}
+use Rattle.layout.proofs.Records.{thread-wide, sem-wide}
 
 -- FIELDS
 
@@ -109,14 +109,6 @@ decode-encode {b} {s} on =
 
 pub encode-injective : {b : Board} {s s′ : State} → On b s → On b s′ → encode s ≡ encode s′ → s ≡ s′
 encode-injective {b} on on′ e = sym (decode-encode on) ∙ ap (decode b) e ∙ decode-encode on′
-
--- one record, where it stands
-module _ {b : Board} {s : State} (on : On b s) where
-  pub thread-read : (i : ℕ) → i < b .threads → threadOf (recordAt (encode s) (i * recordLength)) ≡ at (s .threads) i
-  thread-read i h = ap threadOf (thread-record on i h) ∙ thread-back (at (s .threads) i)
-
-  pub sem-read : (k : ℕ) → k < b .sems → semOf (recordAt (encode s) (semsFrom b + k * recordLength)) ≡ semAt (s .sems) k
-  sem-read k h = ap semOf (sem-record on k h) ∙ sem-back (semAt (s .sems) k)
 
 -- BYTES, COMPARED
 

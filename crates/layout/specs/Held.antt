@@ -1,0 +1,32 @@
+-- What a function says of the table that it is lent: the state that the table holds, and what becomes of it.
+use mathlib.Core.Path.{_≡_}
+use mathlib.Core.List.{List}
+use Prim.Native.Nat.{ℕ}
+use lib.ListN.{length}
+use Rattle.rules.specs.Board.{Board, tableLength}
+use Rattle.rules.specs.State.{State, withThreads, withSems}
+use Rattle.rules.specs.Table.{encode, decode}
+use Rattle.rules.specs.declared.Thread.{Thread}
+use Rattle.rules.specs.declared.Sem.{Sem}
+
+-- the table's bytes are the state's, and the state is what they say
+pub record Holds (b : Board) (t : List ℕ) (s : State) : Type 0 where
+  pub bytes : t ≡ encode s
+  pub says : decode b t ≡ s
+
+-- the table holds the state that it says
+pub record Whole (b : Board) (t : List ℕ) : Type 0 where
+  pub long : length t ≡ tableLength b
+  pub meaning : t ≡ encode (decode b t)
+
+-- a table that held a state holds what a rule makes of that state
+pub record Becomes (b : Board) (before after : List ℕ) (rule : State → State) : Type 0 where
+  pub whole : Whole b after
+  pub holds : (s : State) → Holds b before s → Holds b after (rule s)
+
+-- a rule of the threads alone, and of the semaphores alone
+abbrev pub onThreads : (List Thread → List Thread) → State → State
+onThreads f s = withThreads (f (s .threads)) s
+
+abbrev pub onSems : (List Sem → List Sem) → State → State
+onSems f s = withSems (f (s .sems)) s

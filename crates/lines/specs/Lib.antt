@@ -1,0 +1,2 @@
+-- Words for the lines of the table.
+pub mod Numbers

@@ -1,0 +1,338 @@
+// The records of the table, in place: a thread's, a semaphore's and the kernel's. Nobody else knows where a byte stands.
+//
+// Every public function promises for all states at once. One that reads gives what the table says: for the state `s` with
+// `decode printer (now t) ≡ s`, whatever the bytes are. One that writes asks for a whole table, which holds the state that
+// it says, and `Becomes` says of the rule in its last place that a table that held `s` now holds what the rule makes of `s`;
+// the table is whole again. Only the bytes that change are written.
+ghost use mathlib.Core.Path.{_≡_};
+ghost use Prim.Native.Nat.{_<_};
+ghost use lib.ListN.{length, set};
+ghost use Rattle.rules.specs.Basic.{bit};
+ghost use Rattle.rules.specs.Board.{printer, tableLength};
+ghost use Rattle.rules.specs.State.{State, free, at, semAt, counterOf, edit, withPlace, withWait, withCounter, withSuspended, withOutcome, withMail, withSettings, withRunning, withLock};
+ghost use Rattle.rules.specs.Table.{kindOf, objectOf, waitOf, outcomeByte, outcomeOf, decode};
+ghost use Rattle.records.specs.Fields.{withUsed};
+ghost use Rattle.layout.specs.Held.{Whole, Becomes, onThreads, onSems};
+use rules::Outcome;
+use rules::Sem;
+use rules::Thread;
+use rules::Wait;
+
+// "25 records of 24 bytes": a record's length, the first semaphore's record, and the bytes of the kernel's.
+const RECORD: usize = 24;
+
+const SEMAPHORES: usize = 384;
+
+const RUNNING: usize = 576;
+
+const LOCK: usize = 577;
+
+// The first byte of a thread's record and of a semaphore's.
+const USED: usize = 0;
+
+// The other bytes of a thread's record.
+const PRIORITY: usize = 1;
+
+const SUSPENDED: usize = 2;
+
+const KIND: usize = 3;
+
+const OBJECT: usize = 4;
+
+const PLACE: usize = 5;
+
+const FULL: usize = 6;
+
+const OUTCOME: usize = 7;
+
+const TURN: usize = 8;
+
+const COUNTER: usize = 12;
+
+const VALUE: usize = 16;
+
+const PARCEL: usize = 20;
+
+// The other byte of a semaphore's record.
+const COUNT: usize = 1;
+
+// FIELDS
+
+fn wait_of(kind: u8, object: u8, counter: u32) -> Wait
+    ensures { λ r. ⌜ r ≡ waitOf kind object counter ⌝ }
+{
+    match kind {
+        0 => Wait::Nothing { counter },
+        1 => Wait::Delay { counter },
+        2 => Wait::Receive { counter },
+        3 => Wait::Send {
+            to: object,
+            counter,
+        },
+        _ => Wait::Semaphore {
+            on: object,
+            counter,
+        },
+    }
+}
+
+fn kind_of(w: Wait) -> u8
+    ensures { λ r. ⌜ r ≡ kindOf w ⌝ }
+{
+    match w {
+        Wait::Nothing { counter: _ } => 0,
+        Wait::Delay { counter: _ } => 1,
+        Wait::Receive { counter: _ } => 2,
+        Wait::Send { to: _, counter: _ } => 3,
+        Wait::Semaphore { on: _, counter: _ } => 4,
+    }
+}
+
+fn object_of(w: Wait) -> u8
+    ensures { λ r. ⌜ r ≡ objectOf w ⌝ }
+{
+    match w {
+        Wait::Nothing { counter: _ } => 0,
+        Wait::Delay { counter: _ } => 0,
+        Wait::Receive { counter: _ } => 0,
+        Wait::Send { to, counter: _ } => to,
+        Wait::Semaphore { on, counter: _ } => on,
+    }
+}
+
+// What is left of a wait, or of a turn.
+pub fn counter_of(w: Wait) -> u32
+    ensures { λ r. ⌜ r ≡ counterOf w ⌝ }
+{
+    match w {
+        Wait::Nothing { counter } => counter,
+        Wait::Delay { counter } => counter,
+        Wait::Receive { counter } => counter,
+        Wait::Send { to: _, counter } => counter,
+        Wait::Semaphore { on: _, counter } => counter,
+    }
+}
+
+fn outcome_of(byte: u8) -> Outcome
+    ensures { λ r. ⌜ r ≡ outcomeOf byte ⌝ }
+{
+    match byte {
+        0 => Outcome::Done,
+        1 => Outcome::NoneYet,
+        _ => Outcome::Failed,
+    }
+}
+
+fn outcome_byte(o: Outcome) -> u8
+    ensures { λ r. ⌜ r ≡ outcomeByte o ⌝ }
+{
+    match o {
+        Outcome::Done => 0,
+        Outcome::NoneYet => 1,
+        Outcome::Failed => 251,
+    }
+}
+
+fn flag(b: bool) -> u8
+    ensures { λ r. ⌜ r ≡ bit b ⌝ }
+{
+    if b { 1 } else { 0 }
+}
+
+// THREADS
+
+// Thread `i`.
+pub fn load_thread(t: &[u8], i: usize) -> Thread
+    requires { ⌜ (i < printer .threads) × (length (now t) ≡ tableLength printer) ⌝ }
+    ensures { λ r. ⌜ ((s : State) → decode printer (now (t .entry)) ≡ s → r ≡ at (s .threads) i) ⌝ }
+{
+    let base = i * RECORD;
+    let counter = words::word_at(t, base + COUNTER);
+    let wait = wait_of(t[base + KIND], t[base + OBJECT], counter);
+    let outcome = outcome_of(t[base + OUTCOME]);
+    let turn = words::word_at(t, base + TURN);
+    let value = words::word_at(t, base + VALUE);
+    let parcel = words::word_at(t, base + PARCEL);
+    Thread {
+        used: t[base + USED] == 1,
+        priority: t[base + PRIORITY],
+        suspended: t[base + SUSPENDED] == 1,
+        wait,
+        place: t[base + PLACE],
+        full: t[base + FULL] == 1,
+        outcome,
+        turn,
+        value,
+        parcel,
+    }
+}
+
+// The place of thread `i`.
+pub fn set_place(t: &mut [u8], i: usize, place: u8)
+    requires { ⌜ (i < printer .threads) × Whole printer (now t) ⌝ }
+    ensures { λ _. ⌜ Becomes printer (now (t .entry)) (now (t .exit)) (onThreads (edit i (withPlace place))) ⌝ }
+{
+    t[i * RECORD + PLACE] = place;
+}
+
+// The counter of thread `i`, whatever it waits for.
+pub fn set_counter(t: &mut [u8], i: usize, counter: u32)
+    requires { ⌜ (i < printer .threads) × Whole printer (now t) ⌝ }
+    ensures { λ _. ⌜ Becomes printer (now (t .entry)) (now (t .exit)) (onThreads (edit i (withCounter counter))) ⌝ }
+{
+    words::put_word(t, i * RECORD + COUNTER, counter);
+}
+
+// The wait of thread `i`: its kind, its object and its counter.
+pub fn set_wait(t: &mut [u8], i: usize, w: Wait)
+    requires { ⌜ (i < printer .threads) × Whole printer (now t) ⌝ }
+    ensures { λ _. ⌜ Becomes printer (now (t .entry)) (now (t .exit)) (onThreads (edit i (withWait w))) ⌝ }
+{
+    let base = i * RECORD;
+    t[base + KIND] = kind_of(w);
+    t[base + OBJECT] = object_of(w);
+    words::put_word(t, base + COUNTER, counter_of(w));
+}
+
+// The outcome of thread `i`, with its parcel.
+pub fn set_outcome(t: &mut [u8], i: usize, o: Outcome, parcel: u32)
+    requires { ⌜ (i < printer .threads) × Whole printer (now t) ⌝ }
+    ensures { λ _. ⌜ Becomes printer (now (t .entry)) (now (t .exit)) (onThreads (edit i (withOutcome o parcel))) ⌝ }
+{
+    let base = i * RECORD;
+    t[base + OUTCOME] = outcome_byte(o);
+    words::put_word(t, base + PARCEL, parcel);
+}
+
+// The mailbox of thread `i`: full or empty, with its value.
+pub fn set_mail(t: &mut [u8], i: usize, full: bool, value: u32)
+    requires { ⌜ (i < printer .threads) × Whole printer (now t) ⌝ }
+    ensures { λ _. ⌜ Becomes printer (now (t .entry)) (now (t .exit)) (onThreads (edit i (withMail full value))) ⌝ }
+{
+    let base = i * RECORD;
+    t[base + FULL] = flag(full);
+    words::put_word(t, base + VALUE, value);
+}
+
+// Whether thread `i` is suspended.
+pub fn set_suspended(t: &mut [u8], i: usize, suspended: bool)
+    requires { ⌜ (i < printer .threads) × Whole printer (now t) ⌝ }
+    ensures { λ _. ⌜ Becomes printer (now (t .entry)) (now (t .exit)) (onThreads (edit i (withSuspended suspended))) ⌝ }
+{
+    t[i * RECORD + SUSPENDED] = flag(suspended);
+}
+
+// The settings of thread `i`: its priority and its turn.
+pub fn set_settings(t: &mut [u8], i: usize, priority: u8, turn: u32)
+    requires { ⌜ (i < printer .threads) × Whole printer (now t) ⌝ }
+    ensures { λ _. ⌜ Becomes printer (now (t .entry)) (now (t .exit)) (onThreads (edit i (withSettings priority turn))) ⌝ }
+{
+    let base = i * RECORD;
+    t[base + PRIORITY] = priority;
+    words::put_word(t, base + TURN, turn);
+}
+
+// Whether record `i` is in use.
+fn set_used(t: &mut [u8], i: usize, used: bool)
+    requires { ⌜ (i < printer .threads) × Whole printer (now t) ⌝ }
+    ensures { λ _. ⌜ Becomes printer (now (t .entry)) (now (t .exit)) (onThreads (edit i (withUsed used))) ⌝ }
+{
+    t[i * RECORD + USED] = flag(used);
+}
+
+// Thread `i` becomes `th`.
+pub fn store_thread(t: &mut [u8], i: usize, th: Thread)
+    requires { ⌜ (i < printer .threads) × Whole printer (now t) ⌝ }
+    ensures { λ _. ⌜ Becomes printer (now (t .entry)) (now (t .exit)) (onThreads (edit i (λ x. th))) ⌝ }
+{
+    let w = th.wait;
+    let o = th.outcome;
+    set_used(t, i, th.used);
+    set_settings(t, i, th.priority, th.turn);
+    set_suspended(t, i, th.suspended);
+    set_wait(t, i, w);
+    set_place(t, i, th.place);
+    set_mail(t, i, th.full, th.value);
+    set_outcome(t, i, o, th.parcel);
+}
+
+// Record `i` becomes free.
+pub fn free_thread(t: &mut [u8], i: usize)
+    requires { ⌜ (i < printer .threads) × Whole printer (now t) ⌝ }
+    ensures { λ _. ⌜ Becomes printer (now (t .entry)) (now (t .exit)) (onThreads (edit i (λ x. free))) ⌝ }
+{
+    store_thread(
+        t,
+        i,
+        Thread {
+            used: false,
+            priority: 0,
+            suspended: false,
+            wait: Wait::Nothing { counter: 0 },
+            place: 0,
+            full: false,
+            outcome: Outcome::Done,
+            turn: 0,
+            value: 0,
+            parcel: 0,
+        },
+    );
+}
+
+// SEMAPHORES
+
+// Semaphore `k`.
+pub fn load_sem(t: &[u8], k: usize) -> Sem
+    requires { ⌜ (k < printer .sems) × (length (now t) ≡ tableLength printer) ⌝ }
+    ensures { λ r. ⌜ ((s : State) → decode printer (now (t .entry)) ≡ s → r ≡ semAt (s .sems) k) ⌝ }
+{
+    let base = SEMAPHORES + k * RECORD;
+    Sem {
+        used: t[base + USED] == 1,
+        count: t[base + COUNT],
+    }
+}
+
+// Semaphore `k` becomes `e`.
+pub fn set_sem(t: &mut [u8], k: usize, e: Sem)
+    requires { ⌜ (k < printer .sems) × Whole printer (now t) ⌝ }
+    ensures { λ _. ⌜ Becomes printer (now (t .entry)) (now (t .exit)) (onSems (λ es. set es k e)) ⌝ }
+{
+    let base = SEMAPHORES + k * RECORD;
+    t[base + USED] = flag(e.used);
+    t[base + COUNT] = e.count;
+}
+
+// THE KERNEL
+
+// The running thread's number.
+pub fn running(t: &[u8]) -> usize
+    requires { ⌜ length (now t) ≡ tableLength printer ⌝ }
+    ensures { λ r. ⌜ ((s : State) → decode printer (now (t .entry)) ≡ s → r ≡ s .running) ⌝ }
+{
+    t[RUNNING] as usize
+}
+
+// The lock count.
+pub fn lock(t: &[u8]) -> u8
+    requires { ⌜ length (now t) ≡ tableLength printer ⌝ }
+    ensures { λ r. ⌜ ((s : State) → decode printer (now (t .entry)) ≡ s → r ≡ s .lock) ⌝ }
+{
+    t[LOCK]
+}
+
+// Thread `i` runs.
+pub fn set_running(t: &mut [u8], i: usize)
+    requires { ⌜ (i < printer .threads) × Whole printer (now t) ⌝ }
+    ensures { λ _. ⌜ Becomes printer (now (t .entry)) (now (t .exit)) (withRunning i) ⌝ }
+{
+    t[RUNNING] = i as u8;
+}
+
+// The lock count becomes `n`.
+pub fn set_lock(t: &mut [u8], n: u8)
+    requires { ⌜ Whole printer (now t) ⌝ }
+    ensures { λ _. ⌜ Becomes printer (now (t .entry)) (now (t .exit)) (withLock n) ⌝ }
+{
+    t[LOCK] = n;
+}
