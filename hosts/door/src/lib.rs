@@ -14,7 +14,6 @@ mod view;
 
 pub use coverage::{Coverage, REFUSALS};
 pub use hold::{Answered, Hold};
-pub use lent::Lent;
 pub use machine::door;
 pub use runs::random_run;
 pub use view::View;

@@ -1,6 +1,6 @@
 //! A sound table as someone outside sees it: fields by name, read off the bytes.
 
-use model::{at, wait, word, SEMAPHORES, THREADS, WIDTH};
+use model::{at, wait, word, THREADS};
 
 /// A sound table.
 #[derive(Clone, Copy)]
@@ -88,11 +88,5 @@ impl View<'_> {
     /// How many threads are in use.
     pub fn threads(&self) -> usize {
         (0..THREADS).filter(|&i| self.in_use(i)).count()
-    }
-
-    /// How many semaphores are in use.
-    pub fn semaphores(&self) -> usize {
-        let used = |s: &usize| self.0[at::semaphore(*s)..][..WIDTH][at::IN_USE] == 1;
-        (0..SEMAPHORES).filter(used).count()
     }
 }
