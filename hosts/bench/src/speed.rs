@@ -1,0 +1,143 @@
+//! The speed of the door beside the plain kernel: the same calls, in one run, taking turns.
+
+use model::{operation as op, Rng};
+
+use crate::cases::{accepted, Group};
+use crate::measure::{steps, sum, time, Pair};
+use crate::worst::worst;
+
+/// The door may take so many times what the plain kernel takes: over all operations, and for any.
+const OVERALL: f64 = 1.5;
+const ANY: f64 = 2.0;
+
+/// Calls of a group that are timed, and that are counted instruction by instruction.
+const TIMED: usize = 32;
+const COUNTED: usize = 6;
+const ROUNDS: usize = 2_000;
+
+/// What was measured of one group.
+struct Row {
+    name: String,
+    /// Nothing where the program runs under an emulator.
+    nanoseconds: Option<Pair>,
+    instructions: Pair,
+}
+
+impl Row {
+    /// What the budget is about: the time, or the instructions where the time says nothing.
+    fn cost(&self) -> Pair {
+        self.nanoseconds.unwrap_or(self.instructions)
+    }
+
+    fn figures(&self) -> String {
+        match self.nanoseconds {
+            Some(nanoseconds) => nanoseconds.figures() + " | " + &self.instructions.figures(),
+            None => self.instructions.figures(),
+        }
+    }
+}
+
+fn measure(groups: Vec<Group>, counted: usize, emulated: bool) -> Vec<Row> {
+    let counts = steps(&groups, counted);
+    let times: Vec<Option<Pair>> = match emulated {
+        true => vec![None; groups.len()],
+        false => time(&groups, ROUNDS).into_iter().map(Some).collect(),
+    };
+    let rows = groups.into_iter().zip(times).zip(counts);
+    rows.map(|((group, nanoseconds), (instructions, _))| Row {
+        name: group.name,
+        nanoseconds,
+        instructions,
+    })
+    .collect()
+}
+
+fn verdict(within: bool) -> &'static str {
+    match within {
+        true => "OK",
+        false => "OVER",
+    }
+}
+
+/// The head of a table whose rows have `Row::figures` between the first column and the others.
+fn print_head(first: &str, others: &[&str], emulated: bool) {
+    let times = ["door ns", "plain.c ns", "ratio"];
+    let counts = ["door instructions", "plain.c instructions", "ratio"];
+    let times = if emulated { &[] } else { &times[..] };
+    let figures = [times, &counts].concat();
+    println!(
+        "| {first} | {} |",
+        [&figures[..], others].concat().join(" | ")
+    );
+    let lines = ["---:|".repeat(figures.len()), "---|".repeat(others.len())];
+    println!("|---|{}", lines.concat());
+}
+
+fn print_rows(title: &str, rows: &[Row], emulated: bool) {
+    println!("### {title}\n");
+    print_head("Call", &[&format!("at most {ANY}")], emulated);
+    for row in rows {
+        let within = verdict(row.cost().ratio() <= ANY);
+        println!("| {} | {} | {within} |", row.name, row.figures());
+    }
+    println!();
+}
+
+/// How the cost grows with the threads in use, over operations that a table with Init alone accepts
+/// too.
+fn print_growth(emulated: bool) {
+    println!("### How the cost grows with the threads in use\n");
+    println!(
+        "The mean over calls of Make, Drop, Post from interrupt, Lock, Unlock, Tick, Outcome.\n"
+    );
+    print_head("Threads", &[], emulated);
+    for threads in [1, 2, 4, 8, 12, 16] {
+        let mut rng = Rng::new(63);
+        let mut groups = Vec::new();
+        for operations in [op::MAKE..=op::DROP, op::POST_FROM_INTERRUPT..=op::OUTCOME] {
+            groups.extend(accepted(&mut rng, operations, threads..=threads, 3));
+        }
+        let group = Group {
+            name: threads.to_string(),
+            cases: groups.into_iter().flat_map(|group| group.cases).collect(),
+        };
+        for row in measure(vec![group], usize::MAX, emulated) {
+            println!("| {} | {} |", row.name, row.figures());
+        }
+    }
+    println!();
+}
+
+/// Prints the tables; gives whether the door is within its budget.
+pub fn report(emulated: bool) -> bool {
+    println!("## Speed\n");
+    let mut rng = Rng::new(62);
+    let small = measure(accepted(&mut rng, 0..=20, 2..=3, TIMED), COUNTED, emulated);
+    let full = measure(
+        accepted(&mut rng, 0..=20, 16..=16, TIMED),
+        COUNTED,
+        emulated,
+    );
+    let worst = measure(worst(), COUNTED, emulated);
+    print_rows("Small tables: 2 or 3 threads", &small, emulated);
+    print_rows("Full tables: 16 threads", &full, emulated);
+    print_rows("The calls that have the most to do", &worst, emulated);
+    print_growth(emulated);
+    let mix = || small.iter().chain(&full);
+    let overall = sum(mix().map(Row::cost)).ratio();
+    let ratios = mix().chain(&worst).map(|row| row.cost().ratio());
+    let highest = ratios.fold(0., f64::max);
+    let what = if emulated { "instructions" } else { "time" };
+    println!("| Budget, by {what} | ratio | at most | |\n|---|---:|---:|---|");
+    for (name, ratio, budget) in [
+        ("all operations, small and full tables", overall, OVERALL),
+        ("the highest of any call", highest, ANY),
+    ] {
+        println!(
+            "| {name} | {ratio:.2} | {budget} | {} |",
+            verdict(ratio <= budget)
+        );
+    }
+    println!();
+    overall <= OVERALL && highest <= ANY
+}

@@ -1,0 +1,100 @@
+//! The calls that have the most to do: the longest lines, and the most waits that end at once. The
+//! tables are made by accepted requests from fresh.
+
+use model::{door, fresh, operation as op, record, FOREVER, RECORD, TABLE};
+
+use crate::cases::{Case, Group};
+
+/// The table after an accepted request.
+fn after(mut table: [u8; TABLE], record: [u8; RECORD]) -> [u8; TABLE] {
+    let code = door(&mut table, &record, &mut [0; 8]);
+    assert!(code >= 0, "request {record:?} got {code}");
+    table
+}
+
+/// Each of the threads from `first` on is created and waits by the request.
+fn all_wait(mut table: [u8; TABLE], first: u8, wait: [u8; RECORD]) -> [u8; TABLE] {
+    for i in first..16 {
+        table = after(table, record(op::CREATE, i, 5, 5, 0));
+        table = after(table, wait);
+    }
+    table
+}
+
+/// 15 threads wait on semaphore 0.
+fn waiters(number: u32) -> [u8; TABLE] {
+    let made = after(fresh(), record(op::MAKE, 0, 0, 0, 0));
+    all_wait(made, 1, record(op::PEND, 0, 0, number, 0))
+}
+
+/// 14 threads send to thread 1, whose mailbox is full and which runs.
+fn senders() -> [u8; TABLE] {
+    let table = after(fresh(), record(op::CREATE, 1, 1, 5, 0));
+    let full = after(table, record(op::SEND_FROM_INTERRUPT, 1, 0, 0, 7));
+    all_wait(full, 2, record(op::SEND, 1, 0, FOREVER, 9))
+}
+
+/// Init and 15 others in one rank; Init is last, and thread 1 runs with one tick left.
+fn rank_of_16() -> [u8; TABLE] {
+    let mut table = fresh();
+    for i in 1..16 {
+        table = after(table, record(op::CREATE, i, 0, 1, 0));
+    }
+    after(table, record(op::YIELD, 0, 0, 0, 0))
+}
+
+/// Each is a group of one call.
+pub fn worst() -> Vec<Group> {
+    let delays = all_wait(fresh(), 1, record(op::DELAY, 0, 0, 1, 0));
+    let tick = record(op::TICK, 0, 0, 0, 0);
+    let calls = [
+        (
+            "Yield in a rank of 16",
+            rank_of_16(),
+            record(op::YIELD, 0, 0, 0, 0),
+        ),
+        (
+            "Set out of a rank of 16",
+            rank_of_16(),
+            record(op::SET, 1, 31, 1, 0),
+        ),
+        (
+            "Suspend in a rank of 16",
+            rank_of_16(),
+            record(op::SUSPEND, 1, 0, 0, 0),
+        ),
+        (
+            "Delete with 14 senders",
+            senders(),
+            record(op::DELETE, 1, 0, 0, 0),
+        ),
+        (
+            "Receive with 14 senders",
+            senders(),
+            record(op::RECEIVE, 0, 0, 0, 0),
+        ),
+        (
+            "Drop with 15 waiters",
+            waiters(FOREVER),
+            record(op::DROP, 0, 0, 0, 0),
+        ),
+        (
+            "Abort with 14 behind",
+            waiters(FOREVER),
+            record(op::ABORT, 1, 0, 0, 0),
+        ),
+        (
+            "Post serves 15 waiters",
+            waiters(FOREVER),
+            record(op::POST, 0, 0, 99, 0),
+        ),
+        ("Tick rotates a rank of 16", rank_of_16(), tick),
+        ("Tick ends 15 delays", delays, tick),
+        ("Tick ends 15 waits on a semaphore", waiters(1), tick),
+    ];
+    let group = |(name, table, record): (&str, [u8; TABLE], [u8; RECORD])| Group {
+        name: name.to_string(),
+        cases: vec![Case { table, record }],
+    };
+    calls.into_iter().map(group).collect()
+}

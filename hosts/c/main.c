@@ -1,0 +1,134 @@
+/*
+ * The door from C, as the firmware calls it: document 01's example run, and what each sort of refusal leaves alone. It prints a
+ * line for each check that fails and ends with status 1 if there is one.
+ */
+#include "speltmallet.h"
+
+#include <stdio.h>
+#include <string.h>
+
+static uint8_t table[SPELTMALLET_TABLE_BYTES] = SPELTMALLET_FRESH;
+static uint8_t request[SPELTMALLET_REQUEST_BYTES];
+static uint8_t answer[SPELTMALLET_ANSWER_BYTES];
+static int checks;
+static int failures;
+
+static void check(const char *what, long got, long wanted) {
+    checks++;
+    if (got != wanted) {
+        failures++;
+        printf("%s: got %ld, wanted %ld\n", what, got, wanted);
+    }
+}
+
+static void put_word(uint8_t *bytes, uint32_t word) {
+    bytes[0] = (uint8_t)(word & 255);
+    bytes[1] = (uint8_t)(word >> 8 & 255);
+    bytes[2] = (uint8_t)(word >> 16 & 255);
+    bytes[3] = (uint8_t)(word >> 24 & 255);
+}
+
+static uint32_t word_at(const uint8_t *bytes) {
+    return bytes[0] | (uint32_t)bytes[1] << 8 | (uint32_t)bytes[2] << 16 | (uint32_t)bytes[3] << 24;
+}
+
+static void write_request(uint8_t operation, uint8_t object, uint8_t priority, uint32_t number, uint32_t data) {
+    request[SPELTMALLET_REQUEST_OPERATION] = operation;
+    request[SPELTMALLET_REQUEST_OBJECT] = object;
+    request[SPELTMALLET_REQUEST_PRIORITY] = priority;
+    request[SPELTMALLET_REQUEST_ZERO] = 0;
+    put_word(request + SPELTMALLET_REQUEST_NUMBER, number);
+    put_word(request + SPELTMALLET_REQUEST_DATA, data);
+}
+
+/* Puts a request whose answer and next running thread are known. */
+static void ask(const char *what, uint8_t operation, uint8_t object, uint8_t priority, uint32_t number, uint32_t data, int32_t code,
+                uint32_t value, uint8_t running) {
+    int32_t returned;
+    write_request(operation, object, priority, number, data);
+    memset(answer, 0xA5, sizeof answer);
+    returned = speltmallet_door(table, sizeof table, request, sizeof request, answer, sizeof answer);
+    check(what, returned, code);
+    check(what, (int32_t)word_at(answer + SPELTMALLET_ANSWER_CODE), code);
+    check(what, (long)word_at(answer + SPELTMALLET_ANSWER_VALUE), (long)value);
+    check(what, table[SPELTMALLET_KERNEL + SPELTMALLET_KERNEL_RUNNING], running);
+}
+
+/* Document 01's example run, in the order of its records. */
+static void example_run(void) {
+    ask("0 Create 1", SPELTMALLET_OP_CREATE, 1, 5, 2, 0, SPELTMALLET_DONE, 0, 1);
+    ask("1 Create 2", SPELTMALLET_OP_CREATE, 2, 5, 3, 0, SPELTMALLET_DONE, 0, 1);
+    ask("2 Tick", SPELTMALLET_OP_TICK, 0, 0, 0, 0, SPELTMALLET_DONE, 0, 1);
+    ask("3 Tick", SPELTMALLET_OP_TICK, 0, 0, 0, 0, SPELTMALLET_DONE, 0, 2);
+    ask("4 Make 0", SPELTMALLET_OP_MAKE, 0, 0, 0, 0, SPELTMALLET_DONE, 0, 2);
+    ask("5 Pend 0", SPELTMALLET_OP_PEND, 0, 0, SPELTMALLET_FOREVER, 0, SPELTMALLET_BLOCKED, 0, 1);
+    ask("6 Post 0", SPELTMALLET_OP_POST, 0, 0, 1, 0, SPELTMALLET_DONE, 0, 1);
+    ask("7 Pend 0", SPELTMALLET_OP_PEND, 0, 0, 0, 0, SPELTMALLET_BAD_OPERATION, 0, 1);
+    ask("8 operation 99", 99, 0, 0, 0, 0, SPELTMALLET_BAD_RECORD, 0, 1);
+    ask("9 Outcome 2", SPELTMALLET_OP_OUTCOME, 2, 0, 0, 0, SPELTMALLET_OUTCOME_DONE, 0, 1);
+}
+
+/* Mail that goes through: the values of Receive and Outcome. */
+static void mail(void) {
+    const uint8_t *receiver = table + SPELTMALLET_THREAD(1);
+    ask("Receive", SPELTMALLET_OP_RECEIVE, 0, 0, 7, 0, SPELTMALLET_BLOCKED, 0, 2);
+    check("wait kind", receiver[SPELTMALLET_THREAD_WAIT_KIND], SPELTMALLET_WAIT_RECEIVE);
+    check("counter", (long)word_at(receiver + SPELTMALLET_THREAD_COUNTER), 7);
+    ask("Send to a receiver", SPELTMALLET_OP_SEND, 1, 0, 0, 0x89ABCDEFUL, SPELTMALLET_DONE, 0, 2);
+    ask("Outcome 1", SPELTMALLET_OP_OUTCOME, 1, 0, 0, 0, SPELTMALLET_OUTCOME_DONE, 0x89ABCDEFUL, 2);
+    ask("Send from interrupt", SPELTMALLET_OP_SEND_FROM_INTERRUPT, 2, 0, 0, 22, SPELTMALLET_DONE, 0, 2);
+    ask("Receive mail", SPELTMALLET_OP_RECEIVE, 0, 0, 0, 0, SPELTMALLET_DONE, 22, 2);
+}
+
+/* A call that must leave the table alone and, where `untouched` says so, the answer area too. */
+static void refused(const char *what, size_t table_len, size_t request_len, size_t answer_len, int32_t code, int untouched) {
+    uint8_t before[SPELTMALLET_TABLE_BYTES];
+    uint8_t unwritten[SPELTMALLET_ANSWER_BYTES];
+    memcpy(before, table, sizeof before);
+    memset(unwritten, 0xA5, sizeof unwritten);
+    memset(answer, 0xA5, sizeof answer);
+    check(what, speltmallet_door(table, table_len, request, request_len, answer, answer_len), code);
+    check(what, memcmp(table, before, sizeof before), 0);
+    if (untouched) {
+        check(what, memcmp(answer, unwritten, sizeof unwritten), 0);
+    } else {
+        check(what, (int32_t)word_at(answer + SPELTMALLET_ANSWER_CODE), code);
+        check(what, (long)word_at(answer + SPELTMALLET_ANSWER_VALUE), 0);
+    }
+}
+
+static void refusals(void) {
+    uint8_t *last = table + SPELTMALLET_TABLE_BYTES - 1;
+    write_request(SPELTMALLET_OP_DELETE, 0, 0, 0, 0);
+    refused("Delete Init", 600, 12, 8, SPELTMALLET_BAD_OPERATION, 0);
+    write_request(SPELTMALLET_OP_CREATE, 3, SPELTMALLET_TOP_PRIORITY + 1, 1, 0);
+    refused("priority 32", 600, 12, 8, SPELTMALLET_BAD_PRIORITY, 0);
+    write_request(SPELTMALLET_OP_SET, 1, 0, SPELTMALLET_MOST_TICKS + 1, 0);
+    refused("turn 100,000", 600, 12, 8, SPELTMALLET_BAD_TICKS, 0);
+    write_request(SPELTMALLET_OP_RESUME, SPELTMALLET_THREADS, 0, 0, 0);
+    refused("thread 16", 600, 12, 8, SPELTMALLET_BAD_THREAD, 0);
+    write_request(SPELTMALLET_OP_RESUME, 1, 0, 0, 0);
+    refused("Resume a ready thread", 600, 12, 8, SPELTMALLET_BAD_STATE, 0);
+    write_request(SPELTMALLET_OP_DROP, SPELTMALLET_SEMAPHORES, 0, 0, 0);
+    refused("semaphore 8", 600, 12, 8, SPELTMALLET_BAD_SEMAPHORE, 0);
+    write_request(SPELTMALLET_OP_TICK, 0, 0, 0, 0);
+    refused("record of 11 bytes", 600, 11, 8, SPELTMALLET_BAD_RECORD, 0);
+    request[SPELTMALLET_REQUEST_ZERO] = 1;
+    refused("byte 3 not zero", 600, 12, 8, SPELTMALLET_BAD_RECORD, 0);
+    refused("table of 599 bytes", 599, 12, 8, SPELTMALLET_BAD_TABLE, 1);
+    refused("area of 7 bytes", 600, 12, 7, SPELTMALLET_BAD_TABLE, 1);
+    refused("nothing at all", 0, 0, 0, SPELTMALLET_BAD_TABLE, 1);
+    *last = 1;
+    refused("unsound table", 600, 12, 8, SPELTMALLET_BAD_TABLE, 1);
+    *last = 0;
+    ask("sound again", SPELTMALLET_OP_LOCK, 0, 0, 0, 0, SPELTMALLET_DONE, 0, 2);
+    check("lock count", table[SPELTMALLET_KERNEL + SPELTMALLET_KERNEL_LOCK], 1);
+}
+
+int main(void) {
+    example_run();
+    mail();
+    refusals();
+    printf("the door from C: %d checks, %d failed\n", checks, failures);
+    return failures != 0;
+}

@@ -1,0 +1,19 @@
+//! The compiled door from Rust, and what holds it to the independent model: every call is put to
+//! both, and the returned number, the table, the area and the bytes around them must be the same.
+
+pub mod boards;
+mod coverage;
+mod hold;
+mod lent;
+#[cfg_attr(emulated, path = "emulated.rs")]
+#[cfg_attr(not(emulated), path = "linked.rs")]
+mod machine;
+mod runs;
+mod sorts;
+mod view;
+
+pub use coverage::{Coverage, REFUSALS};
+pub use hold::{Answered, Hold};
+pub use machine::door;
+pub use runs::random_run;
+pub use view::View;
