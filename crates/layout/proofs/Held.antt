@@ -1,6 +1,6 @@
 -- Tables that hold states: bytes written into one record of such a table make the table of the state with that record changed,
 -- and steps follow one another. Assumes nothing.
-use mathlib.Core.Path.{_≡_, sym, ap, subst, _∙_}
+use mathlib.Core.Path.{_≡_, refl, sym, ap, subst, _∙_}
 use mathlib.Core.List.{List}
 use Prim.Native.Nat.{ℕ, _+_, _*_, _<_}
 use lib.ListN.{length, set, length-set}
@@ -55,6 +55,16 @@ module _ {b : Board} {t : List ℕ} where
   -- nothing is written
   pub becomes-same : {g : State → State} → Whole b t → ((s : State) → Holds b t s → s ≡ g s) → Becomes b t t g
   becomes-same w e = becomes w (λ s h. subst (λ z. Holds b t z) (e s h) h)
+
+-- THE PROMISES ARE TIGHT
+
+-- two tables that a writer may leave are one
+pub becomes-one : {b : Board} {t t′ t″ : List ℕ} {rule : State → State} → Whole b t → Becomes b t t′ rule → Becomes b t t″ rule → t′ ≡ t″
+becomes-one w p q = p .holds _ (whole-holds w) .bytes ∙ sym (q .holds _ (whole-holds w) .bytes)
+
+-- two answers that a reader may give are one
+pub said-one : {A : Type 0} {x y : A} (b : Board) (t : List ℕ) (read : State → A) → ((s : State) → decode b t ≡ s → x ≡ read s) → ((s : State) → decode b t ≡ s → y ≡ read s) → x ≡ y
+said-one b t read p q = p (decode b t) refl ∙ sym (q (decode b t) refl)
 
 -- CHANGES OF ONE THREAD
 

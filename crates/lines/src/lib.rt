@@ -3,7 +3,6 @@
 // The promises are those of crate `records`: one that reads gives what the table says, and one that writes asks for a whole
 // table and says by `Becomes` what the table holds then. A line goes by its number, `lineNumber`.
 ghost use mathlib.Core.Path.{_≡_};
-ghost use mathlib.Core.Bool.{true};
 ghost use Prim.Native.Nat.{ℕ, _≤_, _<_};
 ghost use lib.ListN.{length};
 ghost use mathlib.Core.List.{map};
@@ -14,6 +13,7 @@ ghost use Rattle.rules.specs.Lines.{Line, ready, waiters, senders, waitLine, li
 ghost use Rattle.rules.specs.Table.{decode};
 ghost use Rattle.layout.specs.Held.{Whole, Becomes, onThreads};
 ghost use Rattle.lines.specs.Numbers.{lineNumber};
+ghost use Rattle.lines.specs.Priorities.{AtMost};
 use rules::Thread;
 use rules::Wait;
 
@@ -240,7 +240,7 @@ pub fn first_of(t: &[u8], line: u16) -> usize
 // Thread `j`'s priority, if it is ready and that is higher than `p`; else `p`.
 fn higher(t: &[u8], j: usize, p: u8) -> u8
     requires { ⌜ (j < printer .threads) × (length (now t) ≡ tableLength printer) × (p ≤ topPriority) ⌝ }
-    ensures { λ r. ⌜ (r ≤ topPriority) × (p ≤ r) × ((s : State) → decode printer (now (t .entry)) ≡ s → isReady (at (s .threads) j) ≡ true → at (s .threads) j .priority ≤ topPriority → at (s .threads) j .priority ≤ r) ⌝ }
+    ensures { λ r. ⌜ (r ≤ topPriority) × (p ≤ r) × ((s : State) → decode printer (now (t .entry)) ≡ s → AtMost r (at (s .threads) j)) ⌝ }
 {
     let th = records::load_thread(t, j);
     let own = th.priority;
@@ -256,7 +256,7 @@ fn higher(t: &[u8], j: usize, p: u8) -> u8
 // No ready thread has a higher priority than this, of those that a line has.
 fn highest(t: &[u8]) -> u8
     requires { ⌜ length (now t) ≡ tableLength printer ⌝ }
-    ensures { λ r. ⌜ (r ≤ topPriority) × ((s : State) → decode printer (now (t .entry)) ≡ s → (j : ℕ) → j < printer .threads → isReady (at (s .threads) j) ≡ true → at (s .threads) j .priority ≤ topPriority → at (s .threads) j .priority ≤ r) ⌝ }
+    ensures { λ r. ⌜ (r ≤ topPriority) × ((s : State) → decode printer (now (t .entry)) ≡ s → (j : ℕ) → j < printer .threads → AtMost r (at (s .threads) j)) ⌝ }
 {
     let mut p: u8 = 0;
     for j in 0..THREADS {

@@ -1,44 +1,37 @@
-use Rattle.rules.specs.Table.{decode}
-use Rattle.rules.specs.State.{State, at, isReady}
-use Rattle.rules.specs.Board.{printer, topPriority}
-use borrow.Author.Count.{below-none, below-more}
-use native.Mathlib.Omega.{arith}
-use Prim.Native.Nat.{ℕ, _≤_, _<_, _-_}
-use mathlib.Core.Bool.{true}
+-- `lines::highest` meets its contract: before turn j none of the first j threads has a higher priority than p. Assumes
+-- nothing.
 use mathlib.Core.Path.{_≡_}
+use Prim.Native.Nat.{ℕ, _≤_, _<_, _-_}
+use native.Mathlib.Omega.{arith}
+use borrow.Author.Count.{below-none, below-more}
+use Rattle.rules.specs.Table.{decode}
+use Rattle.rules.specs.State.{State, at}
+use Rattle.rules.specs.Board.{printer, topPriority}
+use Rattle.lines.specs.Priorities.{AtMost}
 use Rattle.lines.proofs.highest.Statement.{statement}
 use Rattle.lines.proofs.highest.Tie as tie
-use Rattle.lines.proofs.highest.Reads as reads
-use Rattle.lines.proofs.highest.Lts as lts
-use Rattle.lines.proofs.higher.Reads as higher-reads
 
 abbrev Inv-loop : tie.InvT-loop
-Inv-loop t p₀ j₀ p j = (j ≤ printer .threads) × (p ≤ topPriority) × ((s : State) → decode printer t ≡ s → (k : ℕ) → k < j → isReady (at (s .threads) k) ≡ true → at (s .threads) k .priority ≤ topPriority → at (s .threads) k .priority ≤ p)
+Inv-loop t p₀ j₀ p j = (j ≤ printer .threads) × (p ≤ topPriority) × ((s : State) → decode printer t ≡ s → (k : ℕ) → k < j → AtMost p (at (s .threads) k))
 
 abbrev μ-loop : tie.MeasureT-loop
 μ-loop t p₀ j₀ p j = 16 - j
 
--- src/lib.rt:268:5
 loop-holds : tie.Need-loop-holds Inv-loop μ-loop
 loop-holds c = (omega arith, omega arith, λ s e. below-none _)
 
--- src/lib.rt:269:9
 higher-requires : tie.Need-higher-requires Inv-loop μ-loop
 higher-requires c κs = (c .loop-test .taken, c .before .before .before .pre, c .before .loop .inv .1)
 
--- src/lib.rt:268:9
 add-j : tie.Need-add-j Inv-loop μ-loop
 add-j c = omega arith
 
--- src/lib.rt:268:5
 loop-less : tie.Need-loop-less Inv-loop μ-loop
 loop-less c = omega arith
 
--- src/lib.rt:268:5
 loop-again : tie.Need-loop-again Inv-loop μ-loop
 loop-again c = (omega arith, c .higher .ensures .0, λ s e. below-more _ _ (λ k h a b. omega (arith, c .before .before .loop .inv .2 s e k h a b, c .higher .ensures .1)) (c .higher .ensures .2 s e))
 
--- src/lib.rt:263:1
 returns : tie.Need-returns Inv-loop μ-loop
 returns c = (c .before .loop .inv .1, λ s e k h. c .before .loop .inv .2 s e k (omega arith))
 

@@ -1,24 +1,22 @@
-use mathlib.Core.Path.{refl}
-use Rattle.lines.proofs.Turns.{count-turn}
-use Rattle.lines.proofs.Standing.{nobody-stands}
-use Rattle.lines.proofs.Numbered.{none-of}
-use Rattle.lines.specs.Numbers.{lineNumber}
-use Rattle.layout.proofs.Held.{said-on}
+-- `lines::line_length` meets its contract: before turn j those of the first j threads are counted that stand in the line,
+-- and nowhere nobody stands. Assumes nothing.
+use mathlib.Core.Path.{refl, _≡_, sym, ap, _∙_}
+use Prim.Native.Nat.{_≤_, _-_}
+use native.Mathlib.Omega.{arith}
+use lib.Seq.{take-all}
+use lib.ListN.{take}
 use Rattle.rules.specs.Table.{decode}
 use Rattle.rules.specs.Lines.{Line, inLine, lineLength}
 use Rattle.rules.specs.State.{State, free}
 use Rattle.rules.specs.Board.{printer}
 use Rattle.rules.specs.Basic.{count}
-use lib.Seq.{take-all}
-use lib.ListN.{length, take}
-use native.Mathlib.Omega.{arith}
-use Prim.Native.Nat.{_≤_, _-_}
-use mathlib.Core.Path.{_≡_, sym, ap, _∙_}
+use Rattle.laws.proofs.Placed.{count-nowhere}
+use Rattle.layout.proofs.Held.{said-on}
+use Rattle.lines.specs.Numbers.{lineNumber}
+use Rattle.lines.proofs.Turns.{count-turn}
+use Rattle.lines.proofs.Numbered.{none-of}
 use Rattle.lines.proofs.line_length.Statement.{statement}
 use Rattle.lines.proofs.line_length.Tie as tie
-use Rattle.lines.proofs.line_length.Reads as reads
-use Rattle.lines.proofs.line_length.Lts as lts
-use Rattle.lines.proofs.stands.Reads as stands-reads
 
 abbrev Inv-loop : tie.InvT-loop
 Inv-loop t line n₀ j₀ n j = (j ≤ printer .threads) × (n ≤ j) × ((s : State) (l : Line) → decode printer t ≡ s → line ≡ lineNumber l → n ≡ count (inLine l) (take j (s .threads)))
@@ -26,35 +24,35 @@ Inv-loop t line n₀ j₀ n j = (j ≤ printer .threads) × (n ≤ j) × ((s : S
 abbrev μ-loop : tie.MeasureT-loop
 μ-loop t line n₀ j₀ n j = 16 - j
 
--- src/lib.rt:184:9
 returns : tie.Need-returns Inv-loop μ-loop
-returns c = λ s l e q. sym (ap (λ m. lineLength m (s .threads)) (none-of l (sym (c .if1 .taken) ∙ q)) ∙ nobody-stands (s .threads))
+returns c = λ s l e q. sym (ap (λ m. lineLength m (s .threads)) (none-of l (sym (c .if1 .taken) ∙ q)) ∙ count-nowhere (s .threads))
 
--- src/lib.rt:187:5
 loop-holds : tie.Need-loop-holds Inv-loop μ-loop
 loop-holds c = (omega arith, omega arith, λ s l e q. refl)
 
--- src/lib.rt:188:14
 stands-requires : tie.Need-stands-requires Inv-loop μ-loop
 stands-requires c κs = (c .loop-test .taken, c .before .before .before .before .pre)
 
--- src/lib.rt:188:9
 add-n : tie.Need-add-n Inv-loop μ-loop
 add-n c = omega (arith, c .stands .ensures .0)
 
--- src/lib.rt:187:9
 add-j : tie.Need-add-j Inv-loop μ-loop
 add-j c = omega arith
 
--- src/lib.rt:187:5
 loop-less : tie.Need-loop-less Inv-loop μ-loop
 loop-less c = omega arith
 
--- src/lib.rt:187:5
 loop-again : tie.Need-loop-again Inv-loop μ-loop
-loop-again c = (omega arith, omega (arith, c .stands .ensures .0), λ s l e q. omega (arith, count-turn (inLine l) free (s .threads) (c .before .before .loop .j) (omega (arith, said-on printer _ e .threads)), c .before .before .loop .inv .2 s l e q, c .stands .ensures .1 s l e q))
+loop-again c =
+    let one = c .stands .ensures in
+    let j = c .before .before .loop .j in (
+      omega arith,
+      omega (arith, one .0),
+      λ s l e q.
+          let more = count-turn (inLine l) free (s .threads) j (omega (arith, said-on printer _ e .threads)) in
+          omega (arith, c .before .before .loop .inv .2 s l e q, one .1 s l e q),
+    )
 
--- src/lib.rt:179:1
 returns-2 : tie.Need-returns-2 Inv-loop μ-loop
 returns-2 c = λ s l e q. c .before .loop .inv .2 s l e q ∙ ap (count (inLine l)) (take-all (c .before .loop .j) (s .threads) (omega (arith, said-on printer _ e .threads)))
 

@@ -1,128 +1,107 @@
-use Rattle.records.proofs.Rows.{thread-made}
-use Rattle.layout.proofs.Said.{thread-said}
-use Rattle.rules.specs.State.{at}
-use Rattle.rules.specs.Board.{printer}
+-- `records::load_thread` meets its contract: each field is what the record says, and the record is the thread's. Assumes
+-- nothing.
 use mathlib.Core.Path.{sym, ap, _∙_}
 use borrow.Author.Needs.{needs}
+use Rattle.rules.specs.State.{at}
+use Rattle.rules.specs.Board.{printer}
+use Rattle.layout.proofs.Said.{thread-said}
+use Rattle.records.proofs.Rows.{thread-made}
 use Rattle.records.proofs.load_thread.Statement.{statement}
 use Rattle.records.proofs.load_thread.Tie as tie
-use Rattle.records.proofs.load_thread.Reads as reads
-use Rattle.records.proofs.load_thread.Lts as lts
-use Rattle.records.proofs.outcome_of.Reads as outcome-of-reads
-use Rattle.records.proofs.wait_of.Reads as wait-of-reads
-use Rattle.words.proofs.word_at.Reads as word-at-reads
 
--- src/lib.rt:123:16
 mul-base : tie.Need-mul-base
 mul-base c = search needs
 
--- src/lib.rt:124:37
 add-word-at : tie.Need-add-word-at
 add-word-at c = search needs
 
--- src/lib.rt:124:9
 word-at-requires : tie.Need-word-at-requires
 word-at-requires c κs = search needs
 
--- src/lib.rt:125:26
 add-wait-of : tie.Need-add-wait-of
 add-wait-of c = search needs
 
--- src/lib.rt:125:24
 shared-slice-read-wait-of : tie.Need-shared-slice-read-wait-of
 shared-slice-read-wait-of c = search needs
 
--- src/lib.rt:125:42
 add-wait-of-2 : tie.Need-add-wait-of-2
 add-wait-of-2 c = search needs
 
--- src/lib.rt:125:40
 shared-slice-read-wait-of-2 : tie.Need-shared-slice-read-wait-of-2
 shared-slice-read-wait-of-2 c = search needs
 
--- src/lib.rt:125:9
 wait-of-requires : tie.Need-wait-of-requires
 wait-of-requires c κs = search needs
 
--- src/lib.rt:126:32
 add-outcome-of : tie.Need-add-outcome-of
 add-outcome-of c = search needs
 
--- src/lib.rt:126:30
 shared-slice-read-outcome-of : tie.Need-shared-slice-read-outcome-of
 shared-slice-read-outcome-of c = search needs
 
--- src/lib.rt:126:9
 outcome-of-requires : tie.Need-outcome-of-requires
 outcome-of-requires c κs = search needs
 
--- src/lib.rt:127:34
 add-word-at-2 : tie.Need-add-word-at-2
 add-word-at-2 c = search needs
 
--- src/lib.rt:127:9
 word-at-requires-2 : tie.Need-word-at-requires-2
 word-at-requires-2 c κs = search needs
 
--- src/lib.rt:128:35
 add-word-at-3 : tie.Need-add-word-at-3
 add-word-at-3 c = search needs
 
--- src/lib.rt:128:9
 word-at-requires-3 : tie.Need-word-at-requires-3
 word-at-requires-3 c κs = search needs
 
--- src/lib.rt:129:36
 add-word-at-4 : tie.Need-add-word-at-4
 add-word-at-4 c = search needs
 
--- src/lib.rt:129:9
 word-at-requires-4 : tie.Need-word-at-requires-4
 word-at-requires-4 c κs = search needs
 
--- src/lib.rt:131:17
 add-t10 : tie.Need-add-t10
 add-t10 c = search needs
 
--- src/lib.rt:131:15
 shared-slice-read-t15 : tie.Need-shared-slice-read-t15
 shared-slice-read-t15 c = search needs
 
--- src/lib.rt:132:21
 add-t13 : tie.Need-add-t13
 add-t13 c = search needs
 
--- src/lib.rt:132:19
 shared-slice-read-t12 : tie.Need-shared-slice-read-t12
 shared-slice-read-t12 c = search needs
 
--- src/lib.rt:133:22
 add-t20 : tie.Need-add-t20
 add-t20 c = search needs
 
--- src/lib.rt:133:20
 shared-slice-read-t22 : tie.Need-shared-slice-read-t22
 shared-slice-read-t22 c = search needs
 
--- src/lib.rt:135:18
 add-t24 : tie.Need-add-t24
 add-t24 c = search needs
 
--- src/lib.rt:135:16
 shared-slice-read-t26 : tie.Need-shared-slice-read-t26
 shared-slice-read-t26 c = search needs
 
--- src/lib.rt:136:17
 add-t27 : tie.Need-add-t27
 add-t27 c = search needs
 
--- src/lib.rt:136:15
 shared-slice-read-t29 : tie.Need-shared-slice-read-t29
 shared-slice-read-t29 c = search needs
 
--- src/lib.rt:119:1
 returns : tie.Need-returns
-returns c = λ s e. sym (thread-made _ _ _ _ _ _ _ _ (c .before .before .before .before .before .before .before .before .before .before .before .before .before .word-at .ensures) (c .before .before .before .before .before .before .before .before .before .before .wait-of .ensures) (c .before .before .before .before .before .before .before .before .outcome-of .ensures) (c .before .before .before .before .before .before .before .word-at2 .ensures) (c .before .before .before .before .before .before .word-at3 .ensures) (c .before .before .before .before .before .word-at4 .ensures)) ∙ sym (thread-said printer _ (c .before .before .before .before .before .before .before .before .before .before .before .before .before .before .before .pre .1) (c .before .before .before .before .before .before .before .before .before .before .before .before .before .before .before .args .i) (c .before .before .before .before .before .before .before .before .before .before .before .before .before .before .before .pre .0)) ∙ ap (λ s. at (s .threads) (c .before .before .before .before .before .before .before .before .before .before .before .before .before .before .before .args .i)) e
+returns c =
+    λ s e.
+    let i = c .before .before .before .before .before .before .before .before .before .before .before .before .before .before .before .args .i in
+    sym (thread-made _ _ _ _ _ _ _ _
+    (c .before .before .before .before .before .before .before .before .before .before .before .before .before .word-at .ensures)
+    (c .before .before .before .before .before .before .before .before .before .before .wait-of .ensures)
+    (c .before .before .before .before .before .before .before .before .outcome-of .ensures)
+    (c .before .before .before .before .before .before .before .word-at2 .ensures)
+    (c .before .before .before .before .before .before .word-at3 .ensures)
+    (c .before .before .before .before .before .word-at4 .ensures))
+    ∙ sym (thread-said printer _ (c .before .before .before .before .before .before .before .before .before .before .before .before .before .before .before .pre .1) i (c .before .before .before .before .before .before .before .before .before .before .before .before .before .before .before .pre .0)) ∙ ap (λ s. at (s .threads) i) e
 
 pub load-thread-spec : {M : Type 1} → statement M
 load-thread-spec =

@@ -1,0 +1,2 @@
+-- Laws of threads.
+pub mod There

@@ -1,0 +1,26 @@
+-- `threads::changes::move_settings` meets its contract: the settings are written between the two lines. Assumes nothing.
+use borrow.Author.Needs.{needs}
+use Rattle.rules.specs.Lines.{move}
+use Rattle.layout.proofs.Held.{_⨾_}
+use Rattle.threads.proofs.changes.move_settings.Statement.{statement}
+use Rattle.threads.proofs.changes.move_settings.Tie as tie
+
+leave-requires : tie.Need-leave-requires
+leave-requires c κs = search needs
+
+set-settings-requires : tie.Need-set-settings-requires
+set-settings-requires c κs = search needs
+
+join-requires : tie.Need-join-requires
+join-requires c κs = search needs
+
+same-length : tie.Need-same-length
+same-length c = search needs
+
+returns : tie.Need-returns
+unfolding move
+returns c = c .before .before .before .before .before .before .before .before .before .before .leave .ensures ⨾ c .before .before .before .before .before .before .set-settings .ensures ⨾ c .before .before .join .ensures .1
+
+pub move-settings-spec : {M : Type 1} → statement M
+move-settings-spec =
+    tie.close (tie.spec leave-requires set-settings-requires join-requires same-length returns)

@@ -1,0 +1,47 @@
+-- What an operation does, from what its calls do: a refusal leaves the table as it is, and an answer is given on what the table becomes.
+-- Assumes nothing.
+use mathlib.Core.Path.{_≡_, refl, ap, sym, subst, _∙_}
+use mathlib.Core.List.{List}
+use Prim.Native.Nat.{ℕ}
+use Rattle.rules.specs.Board.{Board}
+use Rattle.rules.specs.State.{State}
+use Rattle.rules.specs.Table.{decode}
+use Rattle.rules.specs.Waiting.{Step}
+use Rattle.rules.specs.declared.Answer.{Answer}
+use Rattle.layout.specs.Held.{Holds, Whole, Becomes}
+use Rattle.layout.proofs.Held.{whole-holds}
+use Rattle.waiting.specs.Does.{Does}
+
+-- what a rule gives, by the state alone
+abbrev pub gives : State → Answer → Step
+gives s a = record { state = s; answer = a }
+
+module _ {b : Board} {t : List ℕ} where
+  -- the same by another rule
+  pub does-as : {t′ : List ℕ} {a : Answer} {f g : State → Step} → Does b t t′ a f → ((s : State) → Holds b t s → g s ≡ f s) → Does b t t′ a g
+  does-as {t′} p e = record {
+    whole = p .whole;
+    holds = λ s h. subst (λ z. Holds b t′ z) (sym (ap (λ x. x .state) (e s h))) (p .holds s h);
+    answer = λ s h. p .answer s h ∙ sym (ap (λ x. x .answer) (e s h));
+  }
+
+  -- the table becomes what the rule's state is, and the answer is the rule's
+  pub does : {t′ : List ℕ} {a : Answer} {f : State → State} {rule : State → Step} → Becomes b t t′ f
+      → ((s : State) → Holds b t s → rule s ≡ gives (f s) a) → Does b t t′ a rule
+  does p = does-as (record { whole = p .whole; holds = p .holds; answer = λ s h. refl })
+
+  -- nothing is written, and the rule leaves the state as it is
+  pub does-nothing : {a : Answer} {rule : State → Step} → Whole b t → ((s : State) → decode b t ≡ s → rule s ≡ gives s a) → Does b t t a rule
+  does-nothing w e = does (record { whole = w; holds = λ s h. h }) (λ s h. e s (h .says))
+
+  -- a change, and then the rest of the step
+  pub then-does : {t′ t″ : List ℕ} {a : Answer} {f : State → State} {rest rule : State → Step} → Becomes b t t′ f → Does b t′ t″ a rest
+      → ((s : State) → Holds b t s → rule s ≡ rest (f s)) → Does b t t″ a rule
+  then-does {f} p q = does-as (record { whole = q .whole; holds = λ s h. q .holds (f s) (p .holds s h); answer = λ s h. q .answer (f s) (p .holds s h) })
+
+  -- THE PROMISE IS TIGHT
+
+  -- two tables and two answers that an operation may leave are one
+  pub does-one : {t′ t″ : List ℕ} {a c : Answer} {rule : State → Step} → Whole b t → Does b t t′ a rule → Does b t t″ c rule → (t′ ≡ t″) × (a ≡ c)
+  does-one w p q =
+      let h = whole-holds w in (p .holds _ h .bytes ∙ sym (q .holds _ h .bytes), p .answer _ h ∙ sym (q .answer _ h))

@@ -1,0 +1,4 @@
+-- Laws of what operations do, and of waits.
+pub mod Doing
+pub mod Moving
+pub mod Waits

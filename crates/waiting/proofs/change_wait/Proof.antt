@@ -1,0 +1,38 @@
+-- `waiting::change_wait` meets its contract: what is written between the two lines is one change of the thread. Assumes nothing.
+use borrow.Author.Needs.{needs}
+use Rattle.rules.specs.Lines.{move}
+use Rattle.rules.specs.State.{withWait, withOutcome}
+use Rattle.layout.proofs.Held.{_⨾_}
+use Rattle.waiting.proofs.Moving.{edits}
+use Rattle.waiting.proofs.change_wait.Statement.{statement}
+use Rattle.waiting.proofs.change_wait.Tie as tie
+
+leave-requires : tie.Need-leave-requires
+leave-requires c κs = search needs
+
+set-wait-requires : tie.Need-set-wait-requires
+set-wait-requires c κs = search needs
+
+set-outcome-requires : tie.Need-set-outcome-requires
+set-outcome-requires c κs = search needs
+
+join-requires : tie.Need-join-requires
+join-requires c κs = search needs
+
+same-length : tie.Need-same-length
+same-length c = search needs
+
+returns : tie.Need-returns
+unfolding move
+returns c = c .before .before .before .before .before .before .before .before .before .before .before .before .before .before .leave .ensures ⨾ edits (c .before .before .before .before .before .before .before .before .before .before .before .before .before .before .before .before .before .args .i) (withWait (c .before .before .before .before .before .before .before .before .before .before .before .before .before .before .before .before .before .args .w)) (withOutcome (c .before .before .before .before .before .before .before .before .before .before .before .before .before .before .before .before .before .args .outcome) (c .before .before .before .before .before .before .before .before .before .before .before .before .before .before .before .before .before .args .parcel)) (c .before .before .before .before .before .before .before .before .before .before .before .before .before .before .before .before .before .pre .0) (c .before .before .before .before .before .before .before .before .before .before .set-wait .ensures) (c .before .before .before .before .before .before .set-outcome .ensures) ⨾ c .before .before .join .ensures .1
+
+pub change-wait-spec : {M : Type 1} → statement M
+change-wait-spec =
+    tie.close
+    (tie.spec
+    leave-requires
+    set-wait-requires
+    set-outcome-requires
+    join-requires
+    same-length
+    returns)

@@ -1,0 +1,128 @@
+// How a wait begins and ends, and how a step ends, in place on the lent table. A wait of every kind goes through here.
+//
+// `Becomes` says of a rule that a table that held a state now holds what the rule makes of it; `Does` says the same of an operation's
+// rule, and that the answer is the rule's too.
+ghost use mathlib.Core.Path.{_≡_};
+ghost use Prim.Native.Nat.{ℕ, _<_};
+ghost use lib.ListN.{length};
+ghost use Rattle.rules.specs.Board.{printer, tableLength};
+ghost use Rattle.rules.specs.State.{State, withWait, withOutcome};
+ghost use Rattle.rules.specs.Table.{decode};
+ghost use Rattle.rules.specs.Lines.{Line, move};
+ghost use Rattle.rules.specs.Waiting.{accept, endWait, serve, block, mayNotWait, waitCounter, mustWait};
+ghost use Rattle.rules.specs.declared.Wait.{Wait};
+ghost use Rattle.layout.specs.Held.{Whole, Becomes, onThreads};
+ghost use Rattle.lines.specs.Numbers.{lineNumber};
+ghost use Rattle.waiting.specs.Does.{Serves, Does};
+use rules::Answer;
+use rules::Outcome;
+use rules::Refusal;
+use rules::Wait;
+
+// How many threads there are.
+const THREADS: usize = 16;
+
+// "Turns and delays 1 to 99,999 ticks."
+const MOST_TICKS: u32 = 99999;
+
+// THE END OF A STEP
+
+// A step that is accepted: the thread that then runs is settled, and the answer is `value`.
+pub fn accept(t: &mut [u8], value: u32) -> Answer
+    requires { ⌜ Whole printer (now t) ⌝ }
+    ensures { λ r. ⌜ Does printer (now (t .entry)) (now (t .exit)) r (λ s. accept s value) ⌝ }
+{
+    lines::settle(t);
+    Answer::Done { value }
+}
+
+// A WAIT ENDS
+
+// Thread `i` leaves its line, its wait becomes `w` with that outcome and parcel, and it joins the line that it then belongs to.
+fn change_wait(t: &mut [u8], i: usize, w: Wait, outcome: Outcome, parcel: u32)
+    requires { ⌜ (i < printer .threads) × Whole printer (now t) ⌝ }
+    ensures { λ _. ⌜ Becomes printer (now (t .entry)) (now (t .exit)) (onThreads (move i (λ x. withOutcome outcome parcel (withWait w x)))) ⌝ }
+{
+    lines::leave(t, i);
+    records::set_wait(t, i, w);
+    records::set_outcome(t, i, outcome, parcel);
+    lines::join(t, i);
+}
+
+// The wait of thread `i` ends: it leaves its line, and enters its ready line if it is not suspended.
+pub fn end_wait(t: &mut [u8], i: usize, outcome: Outcome, parcel: u32)
+    requires { ⌜ (i < printer .threads) × Whole printer (now t) ⌝ }
+    ensures { λ _. ⌜ Becomes printer (now (t .entry)) (now (t .exit)) (onThreads (endWait i outcome parcel)) ⌝ }
+{
+    change_wait(t, i, Wait::Nothing { counter: 0 }, outcome, parcel);
+}
+
+// The first of a line is served: its wait ends. Where the line has no first, nothing is done.
+fn serve_first(t: &mut [u8], line: u16, outcome: Outcome)
+    requires { ⌜ Whole printer (now t) ⌝ }
+    ensures { λ _. ⌜ Whole printer (now (t .exit)) × ((l : Line) → line ≡ lineNumber l → Becomes printer (now (t .entry)) (now (t .exit)) (onThreads (serve 1 l outcome))) ⌝ }
+{
+    let i = lines::first_of(t, line);
+    if i < THREADS {
+        end_wait(t, i, outcome, 0);
+    }
+}
+
+// The first `n` threads of a line are served, in line order.
+pub fn serve(t: &mut [u8], n: u8, line: u16, outcome: Outcome)
+    requires { ⌜ Whole printer (now t) ⌝ }
+    ensures { λ _. ⌜ ((l : Line) → line ≡ lineNumber l → Becomes printer (now (t .entry)) (now (t .exit)) (onThreads (serve n l outcome))) ⌝ }
+{
+    for k in 0..n {
+        serve_first(t, line, outcome);
+    }
+}
+
+// A WAIT BEGINS
+
+// "The caller is Init or the lock is on."
+pub fn may_not_wait(t: &[u8]) -> bool
+    requires { ⌜ length (now t) ≡ tableLength printer ⌝ }
+    ensures { λ r. ⌜ ((s : State) → decode printer (now (t .entry)) ≡ s → r ≡ mayNotWait s) ⌝ }
+{
+    if records::running(t) == 0 {
+        return true;
+    }
+    records::lock(t) > 0
+}
+
+// The caller waits: it leaves its ready line and joins the tail of its wait's line.
+pub fn block(t: &mut [u8], w: Wait, parcel: u32) -> Answer
+    requires { ⌜ Serves printer (now t) ⌝ }
+    ensures { λ r. ⌜ Does printer (now (t .entry)) (now (t .exit)) r (λ s. block s w parcel) ⌝ }
+{
+    let i = records::running(t);
+    change_wait(t, i, w, Outcome::NoneYet, parcel);
+    lines::settle(t);
+    Answer::Blocked
+}
+
+// What a wait number leaves on the counter: 0 where the wait has no end.
+pub fn wait_counter(n: u32) -> u32
+    ensures { λ r. ⌜ r ≡ waitCounter n ⌝ }
+{
+    if n > MOST_TICKS { 0 } else { n }
+}
+
+// A call that must wait by wait number `n`: `w` is the wait, with the counter that the number leaves.
+pub fn must_wait(t: &mut [u8], n: u32, w: Wait, parcel: u32) -> Answer
+    requires { ⌜ Serves printer (now t) ⌝ }
+    ensures { λ r. ⌜ ((kind : ℕ → Wait) → w ≡ kind (waitCounter n) → Does printer (now (t .entry)) (now (t .exit)) r (λ s. mustWait s n kind parcel)) ⌝ }
+{
+    if n == 0 {
+        return Answer::Refused {
+            why: Refusal::BadOperation,
+        };
+    }
+    if may_not_wait(t) {
+        return Answer::Refused {
+            why: Refusal::BadOperation,
+        };
+    }
+    block(t, w, parcel)
+}
