@@ -1,0 +1,2 @@
+-- How tight the promises are.
+pub mod Tight
