@@ -1,0 +1,157 @@
+// The scheduler lock, the tick, and Outcome.
+ghost use mathlib.Core.Path.{_≡_};
+ghost use Prim.Native.Nat.{_<_};
+ghost use Rattle.rules.specs.Board.{printer};
+ghost use Rattle.rules.specs.State.{withThreads};
+ghost use Rattle.rules.specs.Time.{doLock, doUnlock, charge, charged, timedOut, countDown, timeouts, doTick, outcomeAnswer, doOutcome};
+ghost use Rattle.layout.specs.Held.{Whole, Becomes, onThreads};
+ghost use Rattle.waiting.specs.Does.{Serves, Does};
+use rules::Answer;
+use rules::Outcome;
+use rules::Refusal;
+use rules::Wait;
+
+// How many threads there are.
+const THREADS: usize = 16;
+
+// "Lock nesting 0 to 255."
+const MOST_LOCK: u8 = 255;
+
+// THE LOCK
+
+pub fn lock(t: &mut [u8]) -> Answer
+    requires { ⌜ Serves printer (now t) ⌝ }
+    ensures { λ r. ⌜ Does printer (now (t .entry)) (now (t .exit)) r doLock ⌝ }
+{
+    let n = records::lock(t);
+    if n >= MOST_LOCK {
+        return Answer::Refused {
+            why: Refusal::BadOperation,
+        };
+    }
+    records::set_lock(t, n + 1);
+    waiting::accept(t, 0)
+}
+
+pub fn unlock(t: &mut [u8]) -> Answer
+    requires { ⌜ Serves printer (now t) ⌝ }
+    ensures { λ r. ⌜ Does printer (now (t .entry)) (now (t .exit)) r doUnlock ⌝ }
+{
+    let n = records::lock(t);
+    if n == 0 {
+        return Answer::Refused {
+            why: Refusal::BadOperation,
+        };
+    }
+    records::set_lock(t, n - 1);
+    waiting::accept(t, 0)
+}
+
+// THE TICK
+
+// Thread `r`, which runs, is charged: its counter less 1 and, if that gives 0, the tail of its line with a full counter.
+fn charge(t: &mut [u8], r: usize)
+    requires { ⌜ (r < printer .threads) × Whole printer (now t) ⌝ }
+    ensures { λ _. ⌜ Becomes printer (now (t .entry)) (now (t .exit)) (onThreads (charge r)) ⌝ }
+{
+    let th = records::load_thread(t, r);
+    let w = th.wait;
+    let c = records::counter_of(w);
+    if c <= 1 {
+        threads::to_tail(t, r);
+        return;
+    }
+    records::set_counter(t, r, c - 1);
+}
+
+// With lock 0 the running thread is charged.
+fn charged(t: &mut [u8])
+    requires { ⌜ Serves printer (now t) ⌝ }
+    ensures { λ _. ⌜ Becomes printer (now (t .entry)) (now (t .exit)) (λ s. withThreads (charged s) s) ⌝ }
+{
+    if records::lock(t) != 0 {
+        return;
+    }
+    let r = records::running(t);
+    charge(t, r);
+}
+
+// How a wait ends whose time is up: a delay is done, any other fails.
+fn timed_out(w: Wait) -> Outcome
+    ensures { λ r. ⌜ r ≡ timedOut w ⌝ }
+{
+    match w {
+        Wait::Nothing { counter: _ } => Outcome::Failed,
+        Wait::Delay { counter: _ } => Outcome::Done,
+        Wait::Receive { counter: _ } => Outcome::Failed,
+        Wait::Send { to: _, counter: _ } => Outcome::Failed,
+        Wait::Semaphore { on: _, counter: _ } => Outcome::Failed,
+    }
+}
+
+// The wait of thread `i` counts down, if it has a counter above 0, and at 0 ends.
+fn count_down(t: &mut [u8], i: usize)
+    requires { ⌜ (i < printer .threads) × Whole printer (now t) ⌝ }
+    ensures { λ _. ⌜ Becomes printer (now (t .entry)) (now (t .exit)) (onThreads (countDown i)) ⌝ }
+{
+    let th = records::load_thread(t, i);
+    let w = th.wait;
+    if !lines::is_waiting(w) {
+        return;
+    }
+    let c = records::counter_of(w);
+    if c == 0 {
+        return;
+    }
+    if c == 1 {
+        waiting::end_wait(t, i, timed_out(w), 0);
+        return;
+    }
+    records::set_counter(t, i, c - 1);
+}
+
+// Every wait counts down, by thread number.
+fn timeouts(t: &mut [u8])
+    requires { ⌜ Whole printer (now t) ⌝ }
+    ensures { λ _. ⌜ Becomes printer (now (t .entry)) (now (t .exit)) (onThreads (timeouts (printer .threads))) ⌝ }
+{
+    for i in 0..THREADS {
+        count_down(t, i);
+    }
+}
+
+pub fn tick(t: &mut [u8]) -> Answer
+    requires { ⌜ Serves printer (now t) ⌝ }
+    ensures { λ r. ⌜ Does printer (now (t .entry)) (now (t .exit)) r doTick ⌝ }
+{
+    charged(t);
+    timeouts(t);
+    waiting::accept(t, 0)
+}
+
+// OUTCOME
+
+// An outcome as the answer to one who asks for it, with the parcel if it is done.
+fn outcome_answer(outcome: Outcome, parcel: u32) -> Answer
+    ensures { λ r. ⌜ r ≡ outcomeAnswer outcome parcel ⌝ }
+{
+    match outcome {
+        Outcome::Done => Answer::Done { value: parcel },
+        Outcome::NoneYet => Answer::NoneYet,
+        Outcome::Failed => Answer::Failed,
+    }
+}
+
+pub fn outcome(t: &[u8], i: u8) -> Answer
+    requires { ⌜ Serves printer (now t) ⌝ }
+    ensures { λ r. ⌜ Does printer (now (t .entry)) (now (t .entry)) r (λ s. doOutcome s i) ⌝ }
+{
+    let th = threads::thread_at(t, i);
+    if !th.used {
+        return Answer::Refused {
+            why: Refusal::BadThread,
+        };
+    }
+    let o = th.outcome;
+    outcome_answer(o, th.parcel)
+}
