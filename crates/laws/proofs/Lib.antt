@@ -1,5 +1,6 @@
 -- Laws of the rules.
 pub mod Split
+pub mod Bitwise
 pub mod Reflect
 pub mod Counts
 pub mod Sums

@@ -26,10 +26,10 @@ pub stands : (l : Line) (q : ℕ) (t : Thread) → standsAt l q t ≡ true ↔ (
 stands l q t = simp reflect Iff·rfl
 
 -- at one of the places up to q of line l
-abbrev upTo : Line → ℕ → Thread → Bool
+abbrev pub upTo : Line → ℕ → Thread → Bool
 upTo l q t = inLine l t && leb (t .place) q
 
-up-one : (l : Line) (q : ℕ) (t : Thread) → bit (upTo l (suc q) t) ≡ bit (upTo l q t) + bit (standsAt l (suc q) t)
+pub up-one : (l : Line) (q : ℕ) (t : Thread) → bit (upTo l (suc q) t) ≡ bit (upTo l q t) + bit (standsAt l (suc q) t)
 up-one l q t = go (inLine l t) (t .place)
   where
     go : (b : Bool) (p : ℕ) → bit (b && leb p (suc q)) ≡ bit (b && leb p q) + bit (b && eqb p (suc q))

@@ -1,6 +1,7 @@
 -- A case split on a test that remembers the test's value. Assumes nothing.
 use mathlib.Core.Bool.{Bool, true, false, not, _&&_, _||_}
-use mathlib.Core.Path.{_≡_, refl}
+use mathlib.Core.Path.{_≡_, refl, sym}
+use mathlib.Core.Logic.{_↔_}
 use Prim.Native.Nat.{ℕ}
 use native.Mathlib.Omega.{arith}
 use Rattle.rules.specs.Basic.{if_then_else_}
@@ -16,6 +17,12 @@ test false = isnt refl
 -- both at once is absurd
 pub clash : {b : Bool} → b ≡ true → b ≡ false → ⊥
 clash {b} p q = let z : _≡_ {A = ℕ} 0 1 = cc in omega arith
+
+-- two tests that pass together are one
+pub pass-together : (a b : Bool) → (a ≡ true) ↔ (b ≡ true) → a ≡ b
+pass-together true b h = sym (h .0 refl)
+pass-together false true h = h .1 refl
+pass-together false false h = refl
 
 pub and-true : (a b : Bool) → a && b ≡ true → (a ≡ true) × (b ≡ true)
 and-true true b e = (refl, e)

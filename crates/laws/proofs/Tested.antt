@@ -27,7 +27,7 @@ use Rattle.laws.proofs.Records.{Object, object-says, used-says, free-sa
 -- EACH THREAD, EACH SEMAPHORE, THE KERNEL
 
 -- a number out of range reads as a free record, which passes
-threads-say : (s : State) → allBelow (length (s .threads)) (threadOk s) ≡ true ↔ ((i : ℕ) → threadOk s i ≡ true)
+pub threads-say : (s : State) → allBelow (length (s .threads)) (threadOk s) ≡ true ↔ ((i : ℕ) → threadOk s i ≡ true)
 unfolding threadOk placeOk freeOk
 threads-say s = (there, λ h. below-of (length (s .threads)) (threadOk s) (λ i q. h i))
   where
@@ -37,7 +37,7 @@ threads-say s = (there, λ h. below-of (length (s .threads)) (threadOk s) (λ i 
       | no q ↦ rw (List·getD-eq-default (s .threads) free {n = i} (omega arith))
     ]
 
-sems-say : (es : List Sem) → all semOk es ≡ true ↔ ((k : ℕ) → semOk (semAt es k) ≡ true)
+pub sems-say : (es : List Sem) → all semOk es ≡ true ↔ ((k : ℕ) → semOk (semAt es k) ≡ true)
 unfolding semOk
 sems-say es = (λ e. all-at semOk freeSem es e refl, all-of semOk freeSem es)
 
@@ -58,7 +58,7 @@ none-above p ts = (
   λ h. all-of (notAbove p) free ts (λ i. simp (or-says, not-fails, leb-says) (h i)),
 )
 
-kernel-says : (s : State) → kernelOk s ≡ true
+pub kernel-says : (s : State) → kernelOk s ≡ true
     ↔ (((s .lock ≤ mostLock) × (isReady (caller s) ≡ true))
     × (s .lock ≤ 0 → (caller s .place ≡ 1) × ((i : ℕ) → isReady (at (s .threads) i) ≡ true → at (s .threads) i .priority ≤ caller s .priority)))
 unfolding kernelOk

@@ -1,0 +1,79 @@
+use mathlib.Core.Path.{_≡_, sym, _∙_}
+use mathlib.Core.Logic.{_↔_}
+use Prim.Native.Nat.{ℕ, _+_, _*_, _-_, _≤_, _<_}
+use native.Mathlib.Omega.{arith}
+use borrow.Author.Count.{below-more}
+use borrow.Author.Tests.{eqb-true, eq-eqb}
+use Rattle.rules.specs.Table.{wordAt}
+use Rattle.laws.proofs.Bitwise.{or-none}
+use Rattle.canon.proofs.Zeros.{words-behind}
+use Rattle.canon.proofs.zero_behind.Statement.{statement}
+use Rattle.canon.proofs.zero_behind.Tie as tie
+use Rattle.canon.proofs.zero_behind.Reads as reads
+use Rattle.canon.proofs.zero_behind.Lts as lts
+use Rattle.words.proofs.word_at.Reads as word-at-reads
+
+abbrev Inv-loop : tie.InvT-loop
+Inv-loop t base first all₀ q₀ all q = (1 ≤ q) × (q ≤ 6) × ((all ≡ 0) ↔ ((first ≡ 0) × ((k : ℕ) → k < q → 1 ≤ k → wordAt t (base + k * 4) ≡ 0)))
+
+abbrev μ-loop : tie.MeasureT-loop
+μ-loop t base first all₀ q₀ all q = 6 - q
+
+-- src/lib.rt:24:5
+loop-holds : tie.Need-loop-holds Inv-loop μ-loop
+loop-holds c = (omega arith, omega arith, (λ e. (e, λ k h l. absurd (omega arith)), λ h. h .0))
+
+-- src/lib.rt:25:41
+mul-word-at : tie.Need-mul-word-at Inv-loop μ-loop
+mul-word-at c = omega arith
+
+-- src/lib.rt:25:34
+add-word-at : tie.Need-add-word-at Inv-loop μ-loop
+add-word-at c = omega arith
+
+-- src/lib.rt:25:16
+word-at-requires : tie.Need-word-at-requires Inv-loop μ-loop
+word-at-requires c κs = omega arith
+
+-- src/lib.rt:24:9
+add-q : tie.Need-add-q Inv-loop μ-loop
+add-q c = omega arith
+
+-- src/lib.rt:24:5
+loop-less : tie.Need-loop-less Inv-loop μ-loop
+loop-less c = omega arith
+
+-- src/lib.rt:24:5
+loop-again : tie.Need-loop-again Inv-loop μ-loop
+loop-again c = (
+  omega arith,
+  omega arith,
+  (
+    λ e. let z = or-none _ _ .0 e in let w = c .before .before .loop .inv .2 .0 (z .0) in (w .0, below-more _ _ (w .1) (λ l. sym (c .word-at .ensures) ∙ z .1)),
+    λ h. or-none _ _ .1 (c .before .before .loop .inv .2 .1 (h .0, λ k q. h .1 k (omega arith)), c .word-at .ensures ∙ h .1 _ (omega arith) (omega arith)),
+  ),
+)
+
+-- src/lib.rt:19:1
+returns : tie.Need-returns Inv-loop μ-loop
+returns c =
+    let z = words-behind (c .before .before .before .args .t .now) (c .before .before .before .args .base) in
+    (
+      λ e. let w = c .before .loop .inv .2 .0 (eqb-true _ 0 e) in (w .0, z .0 (λ q h. w .1 q (omega arith))),
+      λ h. eq-eqb _ 0 (c .before .loop .inv .2 .1 (h .0, λ q l. z .1 (h .1) q (omega arith))),
+    )
+
+pub zero-behind-spec : {M : Type 1} → statement M
+zero-behind-spec =
+    tie.close
+    (tie.spec
+    Inv-loop
+    μ-loop
+    loop-holds
+    mul-word-at
+    add-word-at
+    word-at-requires
+    add-q
+    loop-less
+    loop-again
+    returns)

@@ -1,0 +1,2 @@
+-- Words for the tests of bytes.
+pub mod Zero

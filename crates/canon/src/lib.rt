@@ -1,0 +1,107 @@
+// Does a table say its state and nothing else? "Bytes given no meaning are zero, every field is in range", record by record.
+ghost use mathlib.Core.Path.{_≡_};
+ghost use mathlib.Core.Bool.{true};
+ghost use mathlib.Core.Logic.{_↔_};
+ghost use Prim.Native.Nat.{ℕ, _+_, _*_, _≤_, _<_};
+ghost use lib.ListN.{length, getD};
+ghost use Rattle.rules.specs.Board.{printer, recordLength, tableLength};
+ghost use Rattle.layout.specs.Bytes.{semsFrom, kernelFrom};
+ghost use Rattle.layout.specs.Canon.{waitCanon, outcomeCanon, headCanon, threadCanon, restZero, semCanon};
+ghost use Rattle.canon.specs.Zero.{recordZero};
+
+// "25 records of 24 bytes": a record's length, and where the first semaphore's and the kernel's start.
+const RECORD: usize = 24;
+const SEMAPHORES: usize = 384;
+const KERNEL: usize = 576;
+
+// ZEROS
+
+// Is a number 0, and every byte past the first four of the record that starts at byte `base`?
+fn zero_behind(t: &[u8], base: usize, first: u32) -> bool
+    requires { ⌜ base + recordLength ≤ length (now t) ⌝ }
+    ensures { λ r. ⌜ (r ≡ true) ↔ ((first ≡ 0) × ((k : ℕ) → 4 ≤ k → k < recordLength → getD (now (t .entry)) (base + k) 0 ≡ 0)) ⌝ }
+{
+    let mut all = first;
+    for q in 1..6usize {
+        all |= words::word_at(t, base + q * 4);
+    }
+    all == 0
+}
+
+// Is every byte of thread `i`'s record 0?
+pub fn thread_zero(t: &[u8], i: usize) -> bool
+    requires { ⌜ (i < printer .threads) × (length (now t) ≡ tableLength printer) ⌝ }
+    ensures { λ r. ⌜ r ≡ recordZero (now (t .entry)) (i * recordLength) ⌝ }
+{
+    let base = i * RECORD;
+    zero_behind(t, base, words::word_at(t, base))
+}
+
+// Is every byte 0 past the first two of the record that starts at byte `base`?
+fn rest_zero(t: &[u8], base: usize) -> bool
+    requires { ⌜ base + recordLength ≤ length (now t) ⌝ }
+    ensures { λ r. ⌜ r ≡ restZero (now (t .entry)) base ⌝ }
+{
+    zero_behind(t, base, words::word_at(t, base) / 65536)
+}
+
+// THE RECORDS
+
+fn wait_canon(kind: u8, object: u8) -> bool
+    ensures { λ r. ⌜ r ≡ waitCanon kind object ⌝ }
+{
+    if kind >= 3 { kind <= 4 } else { object == 0 }
+}
+
+fn outcome_canon(byte: u8) -> bool
+    ensures { λ r. ⌜ r ≡ outcomeCanon byte ⌝ }
+{
+    byte <= 1 || byte == 251
+}
+
+fn head_canon(used: u8, suspended: u8, kind: u8, object: u8, full: u8, outcome: u8) -> bool
+    ensures { λ r. ⌜ r ≡ headCanon used suspended kind object full outcome ⌝ }
+{
+    if used > 1 {
+        return false;
+    }
+    if suspended > 1 {
+        return false;
+    }
+    if full > 1 {
+        return false;
+    }
+    if !wait_canon(kind, object) {
+        return false;
+    }
+    outcome_canon(outcome)
+}
+
+// Thread `i`'s record.
+pub fn thread_canon(t: &[u8], i: usize) -> bool
+    requires { ⌜ (i < printer .threads) × (length (now t) ≡ tableLength printer) ⌝ }
+    ensures { λ r. ⌜ r ≡ threadCanon (now (t .entry)) (i * recordLength) ⌝ }
+{
+    let base = i * RECORD;
+    head_canon(t[base], t[base + 2], t[base + 3], t[base + 4], t[base + 6], t[base + 7])
+}
+
+// Semaphore `k`'s record.
+pub fn sem_canon(t: &[u8], k: usize) -> bool
+    requires { ⌜ (k < printer .sems) × (length (now t) ≡ tableLength printer) ⌝ }
+    ensures { λ r. ⌜ r ≡ semCanon (now (t .entry)) (semsFrom printer + k * recordLength) ⌝ }
+{
+    let base = SEMAPHORES + k * RECORD;
+    if t[base] > 1 {
+        return false;
+    }
+    rest_zero(t, base)
+}
+
+// The kernel's record.
+pub fn kernel_canon(t: &[u8]) -> bool
+    requires { ⌜ length (now t) ≡ tableLength printer ⌝ }
+    ensures { λ r. ⌜ r ≡ restZero (now (t .entry)) (kernelFrom printer) ⌝ }
+{
+    rest_zero(t, KERNEL)
+}

@@ -1,0 +1,4 @@
+-- Laws of the places that are taken.
+mod Bits
+pub mod Taking
+pub mod Seats

@@ -1,0 +1,24 @@
+-- What a place that is taken, or cannot be, leaves of the words, and what all words have. Assumes nothing.
+use mathlib.Core.Bool.{Bool, true, false}
+use mathlib.Core.Path.{_≡_, refl, sym}
+use mathlib.Core.List.{List, [], _∷_}
+use Prim.Native.Nat.{ℕ, zero, suc, _+_, _-_, _^_, _<_}
+use native.Mathlib.Omega.{arith}
+use lib.ListN.{length, getD, set}
+use Rattle.rules.specs.Basic.{all}
+use Rattle.laws.proofs.Split.{and-both}
+use Rattle.places.specs.Taken.{vacant, taking}
+
+module _ (words : List ℕ) (line place : ℕ) where
+  pub not-taken : vacant (getD words line 0) place ≡ false → (false ≡ vacant (getD words line 0) place) × (words ≡ taking words line place)
+  unfolding taking
+  not-taken e = (sym e, rw e)
+
+  pub is-taken : vacant (getD words line 0) place ≡ true
+      → (true ≡ vacant (getD words line 0) place) × (set words line (getD words line 0 + 2 ^ (place - 1)) ≡ taking words line place)
+  unfolding taking
+  is-taken e = (sym e, rw e)
+
+pub all-below : (f : ℕ → Bool) (xs : List ℕ) → ((k : ℕ) → k < length xs → f (getD xs k 0) ≡ true) → all f xs ≡ true
+all-below f [] h = refl
+all-below f (x ∷ xs) h = and-both (f x) (all f xs) (h 0 (omega arith)) (all-below f xs (λ k q. h (suc k) (omega arith)))

@@ -1,0 +1,2 @@
+-- Words for the places that are taken.
+pub mod Taken

@@ -1,0 +1,2 @@
+-- Words for the test of a table.
+pub mod Tested

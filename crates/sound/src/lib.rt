@@ -1,0 +1,358 @@
+// Is a table sound? Every record is tested once, in place. Who stands at which place of which line is kept in a bit for each place.
+ghost use mathlib.Core.Path.{_≡_};
+ghost use mathlib.Core.Bool.{true, not, _&&_, _||_};
+ghost use mathlib.Core.List.{List};
+ghost use mathlib.Core.Logic.{_↔_};
+ghost use Prim.Native.Nat.{ℕ, _+_, _*_, _≤_, _<_};
+ghost use lib.Dec.{eqb, leb};
+ghost use lib.ListN.{length, take};
+ghost use Rattle.rules.specs.Basic.{if_then_else_};
+ghost use Rattle.rules.specs.Board.{printer, recordLength, tableLength, topPriority, mostTicks};
+ghost use Rattle.rules.specs.State.{State, at, semAt, sending};
+ghost use Rattle.rules.specs.Lines.{line, waitLine};
+ghost use Rattle.rules.specs.Table.{decode};
+ghost use Rattle.rules.specs.Test.{isDone, isNoneYet, counterOk, objectOk, usedOk, semOk, initOk, notAbove, soundTable};
+ghost use Rattle.rules.specs.declared.Thread.{Thread};
+ghost use Rattle.layout.specs.Bytes.{semsFrom};
+ghost use Rattle.layout.specs.Canon.{semCanon};
+ghost use Rattle.places.specs.Taken.{isFree};
+ghost use Rattle.sound.specs.Tested.{outcomeOk, Lengths, Seats, Seated, Within, ThreadTested, NoGaps, ThreadsTested, RunsTested};
+use rules::Outcome;
+use rules::Thread;
+use rules::Wait;
+
+// "16 threads [..] 8 semaphores [..] Priorities 0 to 31 [..] Turns and delays 1 to 99,999 ticks. Semaphore count 0 to 99."
+const THREADS: usize = 16;
+const SEMAPHORES: usize = 8;
+const TOP_PRIORITY: u8 = 31;
+const MOST_TICKS: u32 = 99999;
+const MOST_COUNT: u8 = 99;
+
+// "Its length is 600."
+const LENGTH: usize = 600;
+
+// A THREAD IN USE, BY ITS OWN RECORD
+
+fn ticks_ok(n: u32) -> bool
+    ensures { λ r. ⌜ r ≡ (leb 1 n && leb n mostTicks) ⌝ }
+{
+    1 <= n && n <= MOST_TICKS
+}
+
+fn settings_ok(priority: u8, turn: u32) -> bool
+    ensures { λ r. ⌜ r ≡ (leb priority topPriority && (leb 1 turn && leb turn mostTicks)) ⌝ }
+{
+    if priority > TOP_PRIORITY {
+        return false;
+    }
+    ticks_ok(turn)
+}
+
+// What is left of a turn: at place 1 of a ready line, 1 to the turn; at a later place, the turn itself.
+fn turn_ok(counter: u32, place: u8, turn: u32) -> bool
+    ensures { λ r. ⌜ r ≡ (if eqb place 1 then leb 1 counter && leb counter turn else eqb counter turn) ⌝ }
+{
+    if place == 1 { 1 <= counter && counter <= turn } else { counter == turn }
+}
+
+fn counter_ok(w: Wait, suspended: bool, place: u8, turn: u32) -> bool
+    ensures { λ r. ⌜ r ≡ counterOk w suspended place turn ⌝ }
+{
+    match w {
+        Wait::Nothing { counter } => {
+            if suspended {
+                counter == 0
+            } else {
+                turn_ok(counter, place, turn)
+            }
+        }
+        Wait::Delay { counter } => ticks_ok(counter),
+        Wait::Receive { counter } => counter <= MOST_TICKS,
+        Wait::Send { to: _, counter } => counter <= MOST_TICKS,
+        Wait::Semaphore { on: _, counter } => counter <= MOST_TICKS,
+    }
+}
+
+fn mail_ok(full: bool, value: u32) -> bool
+    ensures { λ r. ⌜ r ≡ (full || eqb value 0) ⌝ }
+{
+    full || value == 0
+}
+
+fn is_done(o: Outcome) -> bool
+    ensures { λ r. ⌜ r ≡ isDone o ⌝ }
+{
+    match o {
+        Outcome::Done => true,
+        Outcome::NoneYet => false,
+        Outcome::Failed => false,
+    }
+}
+
+fn is_none_yet(o: Outcome) -> bool
+    ensures { λ r. ⌜ r ≡ isNoneYet o ⌝ }
+{
+    match o {
+        Outcome::Done => false,
+        Outcome::NoneYet => true,
+        Outcome::Failed => false,
+    }
+}
+
+fn is_sending(w: Wait) -> bool
+    ensures { λ r. ⌜ r ≡ sending w ⌝ }
+{
+    match w {
+        Wait::Nothing { counter: _ } => false,
+        Wait::Delay { counter: _ } => false,
+        Wait::Receive { counter: _ } => false,
+        Wait::Send { to: _, counter: _ } => true,
+        Wait::Semaphore { on: _, counter: _ } => false,
+    }
+}
+
+fn outcome_ok(w: Wait, o: Outcome, parcel: u32) -> bool
+    ensures { λ r. ⌜ r ≡ outcomeOk w o parcel ⌝ }
+{
+    if !lines::is_waiting(w) {
+        return is_done(o) || parcel == 0;
+    }
+    if !is_none_yet(o) {
+        return false;
+    }
+    is_sending(w) || parcel == 0
+}
+
+// A THREAD IN USE, WITH WHAT IT WAITS FOR
+
+// Can thread `i` wait to send to that thread?
+fn send_ok(t: &[u8], i: usize, to: usize) -> bool
+    requires { ⌜ length (now t) ≡ tableLength printer ⌝ }
+    ensures { λ r. ⌜ ((s : State) → decode printer (now (t .entry)) ≡ s → r ≡ (not (eqb i to) && at (s .threads) to .used && at (s .threads) to .full)) ⌝ }
+{
+    if i == to {
+        return false;
+    }
+    if to >= THREADS {
+        return false;
+    }
+    let th = records::load_thread(t, to);
+    th.used && th.full
+}
+
+// Can a thread wait on that semaphore?
+fn pend_ok(t: &[u8], on: usize) -> bool
+    requires { ⌜ length (now t) ≡ tableLength printer ⌝ }
+    ensures { λ r. ⌜ ((s : State) → decode printer (now (t .entry)) ≡ s → r ≡ (semAt (s .sems) on .used && eqb (semAt (s .sems) on .count) 0)) ⌝ }
+{
+    if on >= SEMAPHORES {
+        return false;
+    }
+    let e = records::load_sem(t, on);
+    e.used && e.count == 0
+}
+
+fn object_ok(t: &[u8], i: usize, w: Wait, full: bool) -> bool
+    requires { ⌜ length (now t) ≡ tableLength printer ⌝ }
+    ensures { λ r. ⌜ ((s : State) → decode printer (now (t .entry)) ≡ s → r ≡ objectOk s i w full) ⌝ }
+{
+    match w {
+        Wait::Nothing { counter: _ } => true,
+        Wait::Delay { counter: _ } => true,
+        Wait::Receive { counter: _ } => !full,
+        Wait::Send { to, counter: _ } => send_ok(t, i, to as usize),
+        Wait::Semaphore { on, counter: _ } => pend_ok(t, on as usize),
+    }
+}
+
+fn used_ok(t: &[u8], i: usize, th: Thread) -> bool
+    requires { ⌜ length (now t) ≡ tableLength printer ⌝ }
+    ensures { λ r. ⌜ ((s : State) → decode printer (now (t .entry)) ≡ s → r ≡ usedOk s i th) ⌝ }
+{
+    let w = th.wait;
+    let o = th.outcome;
+    if !settings_ok(th.priority, th.turn) {
+        return false;
+    }
+    if !mail_ok(th.full, th.value) {
+        return false;
+    }
+    if !counter_ok(w, th.suspended, th.place, th.turn) {
+        return false;
+    }
+    if !object_ok(t, i, w, th.full) {
+        return false;
+    }
+    outcome_ok(w, o, th.parcel)
+}
+
+// PLACES
+
+// Takes the place that a thread in use has in the line that its wait names, if nobody has it.
+fn take_place(ready: &mut [u16; 32], waiters: &mut [u16; 8], senders: &mut [u16; 16], w: Wait, suspended: bool, priority: u8, place: u8) -> bool
+    requires { ⌜ (priority ≤ topPriority) × Within w ⌝ }
+    ensures { λ r. ⌜ ((ts : List Thread) (i : ℕ) → i < length ts → line (at ts i) ≡ waitLine w suspended priority → at ts i .place ≡ place
+        → Seats (now (ready .entry)) (now (waiters .entry)) (now (senders .entry)) (take i ts)
+        → Seated r (now (ready .exit)) (now (waiters .exit)) (now (senders .exit)) ts i) ⌝ }
+{
+    match w {
+        Wait::Nothing { counter: _ } => {
+            if suspended {
+                place == 0
+            } else {
+                places::take(ready, priority as usize, place)
+            }
+        }
+        Wait::Delay { counter: _ } => place == 0,
+        Wait::Receive { counter: _ } => place == 0,
+        Wait::Send { to, counter: _ } => places::take(senders, to as usize, place),
+        Wait::Semaphore { on, counter: _ } => places::take(waiters, on as usize, place),
+    }
+}
+
+// Is a thread's priority at most `limit`, if it is ready?
+fn not_above(th: Thread, limit: u8) -> bool
+    ensures { λ r. ⌜ r ≡ notAbove limit th ⌝ }
+{
+    if lines::is_ready(th) {
+        return th.priority <= limit;
+    }
+    true
+}
+
+// ONE THREAD
+
+fn thread_ok(t: &[u8], i: usize, limit: u8, ready: &mut [u16; 32], waiters: &mut [u16; 8], senders: &mut [u16; 16]) -> bool
+    requires { ⌜ (i < printer .threads) × (length (now t) ≡ tableLength printer) ⌝ }
+    ensures { λ r. ⌜ ((s : State) → decode printer (now (t .entry)) ≡ s
+        → Seats (now (ready .entry)) (now (waiters .entry)) (now (senders .entry)) (take i (s .threads))
+        → ThreadTested r (now (t .entry)) s limit i (now (ready .exit)) (now (waiters .exit)) (now (senders .exit))) ⌝ }
+{
+    let th = records::load_thread(t, i);
+    let w = th.wait;
+    if !th.used {
+        return canon::thread_zero(t, i);
+    }
+    if !canon::thread_canon(t, i) {
+        return false;
+    }
+    if !used_ok(t, i, th) {
+        return false;
+    }
+    if !not_above(th, limit) {
+        return false;
+    }
+    take_place(ready, waiters, senders, w, th.suspended, th.priority, th.place)
+}
+
+// ALL THREADS
+
+// Is in every line the place before one that is taken taken too?
+fn no_gaps(ready: &[u16; 32], waiters: &[u16; 8], senders: &[u16; 16]) -> bool
+    ensures lengths { λ r. ⌜ (r ≡ true → Lengths (now (ready .entry)) (now (waiters .entry)) (now (senders .entry))) ⌝ }
+    ensures gaps { λ r. ⌜ (r ≡ true) ↔ NoGaps (now (ready .entry)) (now (waiters .entry)) (now (senders .entry)) ⌝ }
+{
+    if !places::no_gaps(ready) {
+        return false;
+    }
+    if !places::no_gaps(waiters) {
+        return false;
+    }
+    places::no_gaps(senders)
+}
+
+// Are all threads sound, and is no ready thread's priority above `limit`?
+fn threads_ok(t: &[u8], limit: u8) -> bool
+    requires { ⌜ length (now t) ≡ tableLength printer ⌝ }
+    ensures { λ r. ⌜ ((s : State) → decode printer (now (t .entry)) ≡ s → ThreadsTested r (now (t .entry)) s limit) ⌝ }
+{
+    let mut ready = [0u16; 32];
+    let mut waiters = [0u16; 8];
+    let mut senders = [0u16; 16];
+    for i in 0..THREADS {
+        if !thread_ok(t, i, limit, &mut ready, &mut waiters, &mut senders) {
+            return false;
+        }
+    }
+    no_gaps(&ready, &waiters, &senders)
+}
+
+// SEMAPHORES, AND WHO RUNS
+
+fn sem_ok(t: &[u8], k: usize) -> bool
+    requires { ⌜ (k < printer .sems) × (length (now t) ≡ tableLength printer) ⌝ }
+    ensures { λ r. ⌜ ((s : State) → decode printer (now (t .entry)) ≡ s → r ≡ (semCanon (now (t .entry)) (semsFrom printer + k * recordLength) && semOk (semAt (s .sems) k))) ⌝ }
+{
+    if !canon::sem_canon(t, k) {
+        return false;
+    }
+    let e = records::load_sem(t, k);
+    if e.count > MOST_COUNT {
+        return false;
+    }
+    e.used || e.count == 0
+}
+
+fn sems_ok(t: &[u8]) -> bool
+    requires { ⌜ length (now t) ≡ tableLength printer ⌝ }
+    ensures { λ r. ⌜ ((s : State) → decode printer (now (t .entry)) ≡ s → (r ≡ true) ↔ ((k : ℕ) → k < printer .sems → semCanon (now (t .entry)) (semsFrom printer + k * recordLength) && semOk (semAt (s .sems) k) ≡ true)) ⌝ }
+{
+    for k in 0..SEMAPHORES {
+        if !sem_ok(t, k) {
+            return false;
+        }
+    }
+    true
+}
+
+fn init_ok(t: &[u8]) -> bool
+    requires { ⌜ length (now t) ≡ tableLength printer ⌝ }
+    ensures { λ r. ⌜ ((s : State) → decode printer (now (t .entry)) ≡ s → r ≡ initOk (at (s .threads) 0)) ⌝ }
+{
+    let th = records::load_thread(t, 0);
+    if !lines::is_ready(th) {
+        return false;
+    }
+    th.priority == 0
+}
+
+// Are all threads sound, and the one that runs?
+fn runs_ok(t: &[u8]) -> bool
+    requires { ⌜ length (now t) ≡ tableLength printer ⌝ }
+    ensures { λ r. ⌜ ((s : State) → decode printer (now (t .entry)) ≡ s → RunsTested r (now (t .entry)) s) ⌝ }
+{
+    let i = records::running(t);
+    if i >= THREADS {
+        return false;
+    }
+    let th = records::load_thread(t, i);
+    if !lines::is_ready(th) {
+        return false;
+    }
+    if records::lock(t) != 0 {
+        return threads_ok(t, TOP_PRIORITY);
+    }
+    if th.place != 1 {
+        return false;
+    }
+    threads_ok(t, th.priority)
+}
+
+// Is the table sound?
+pub fn sound(t: &[u8]) -> bool
+    ensures { λ r. ⌜ r ≡ soundTable printer (now (t .entry)) ⌝ }
+{
+    if t.len() != LENGTH {
+        return false;
+    }
+    if !canon::kernel_canon(t) {
+        return false;
+    }
+    if !sems_ok(t) {
+        return false;
+    }
+    if !init_ok(t) {
+        return false;
+    }
+    runs_ok(t)
+}
