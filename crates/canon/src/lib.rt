@@ -11,7 +11,9 @@ ghost use Rattle.canon.specs.Zero.{recordZero};
 
 // "25 records of 24 bytes": a record's length, and where the first semaphore's and the kernel's start.
 const RECORD: usize = 24;
+
 const SEMAPHORES: usize = 384;
+
 const KERNEL: usize = 576;
 
 // ZEROS
@@ -83,7 +85,14 @@ pub fn thread_canon(t: &[u8], i: usize) -> bool
     ensures { λ r. ⌜ r ≡ threadCanon (now (t .entry)) (i * recordLength) ⌝ }
 {
     let base = i * RECORD;
-    head_canon(t[base], t[base + 2], t[base + 3], t[base + 4], t[base + 6], t[base + 7])
+    head_canon(
+        t[base],
+        t[base + 2],
+        t[base + 3],
+        t[base + 4],
+        t[base + 6],
+        t[base + 7],
+    )
 }
 
 // Semaphore `k`'s record.

@@ -77,12 +77,14 @@ module _ {kind : ℕ → Line} (k : Kind kind) (words : List ℕ) (ts : List Thr
         let ok = sym answer ∙ e in
         let x = simp reflect at ok in
         let w : after ≡ set words m (getD words m 0 + 2 ^ (place - 1)) = rw ok at written in
-        record { says = λ n q h. elim (ℕ-discrete m n) [
-          | yes d ↦ rw (← d, w, getD-set-same words m _ 0 within)
-              (omega (arith, bit-added (getD words m 0) (place - 1) q (x .1), old .says m q within, rw (eq-eqb m m refl) at (more m q (x .0 .0))))
-          | no d ↦ rw (w, getD-set-other words m n _ 0 (λ z. d (sym z)))
-              (omega (arith, old .says n q (rw (w, length-set words m _) at h), rw (ne-eqb m n d) at (more n q (x .0 .0))))
-        ] }
+        record {
+          says = λ n q h. elim (ℕ-discrete m n) [
+            | yes d ↦ rw (← d, w, getD-set-same words m _ 0 within)
+                (omega (arith, bit-added (getD words m 0) (place - 1) q (x .1), old .says m q within, rw (eq-eqb m m refl) at (more m q (x .0 .0))))
+            | no d ↦ rw (w, getD-set-other words m n _ 0 (λ z. d (sym z)))
+                (omega (arith, old .says n q (rw (w, length-set words m _) at h), rw (ne-eqb m n d) at (more n q (x .0 .0))))
+          ];
+        }
 
 -- THE RULE OF THE PLACES
 
@@ -156,7 +158,10 @@ placed-free ts most i h ok =
     let x = simp reflect at ok in
     let t = at ts i in
     let f = standsAt (line t) (t .place) in
-    simp reflect (x .0, λ z.
-        let y = x .1 z in
-        let turn = rw (stands (line t) (t .place) t .1 (same-self (line t) z, refl)) at (count-turn f free ts i h) in
-        ((y .0 .0, omega (arith, y .0 .1, count-long (inLine (line t)) ts)), omega (arith, turn, y .1, count-take f (i + 1) ts)))
+    simp reflect (
+      x .0,
+      λ z.
+          let y = x .1 z in
+          let turn = rw (stands (line t) (t .place) t .1 (same-self (line t) z, refl)) at (count-turn f free ts i h) in
+          ((y .0 .0, omega (arith, y .0 .1, count-long (inLine (line t)) ts)), omega (arith, turn, y .1, count-take f (i + 1) ts)),
+    )

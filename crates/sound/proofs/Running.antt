@@ -42,8 +42,18 @@ module _ (t : List ℕ) (s : State) (e : decode printer t ≡ s) (low : s .lock 
 
   pub first-runs : s .lock ≡ 0 → caller s .place ≡ 1 → ThreadsTested r t s (caller s .priority) → RunsTested r t s
   first-runs lock place tested = record {
-    passed = λ q. let h = tested .passed q in record { canon = h .canon; each = h .each; kernel = kernel-says s .1 ((low, ready), λ z. (place, λ i x.
-        let q = within isReady free refl (s .threads) i x in (simp (or-says, not-fails, leb-says) at (h .rank i (omega (arith, on-said t e .threads)))) x)) };
+    passed = λ q. let h = tested .passed q in record {
+      canon = h .canon;
+      each = h .each;
+      kernel = kernel-says s .1 (
+        (low, ready),
+        λ z. (
+          place,
+          λ i x.
+              let q = within isReady free refl (s .threads) i x in (simp (or-says, not-fails, leb-says) at (h .rank i (omega (arith, on-said t e .threads)))) x,
+        ),
+      );
+    };
     passes = λ w h. tested .passes w (record {
       canon = h .canon;
       each = h .each;

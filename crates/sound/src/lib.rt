@@ -23,9 +23,13 @@ use rules::Wait;
 
 // "16 threads [..] 8 semaphores [..] Priorities 0 to 31 [..] Turns and delays 1 to 99,999 ticks. Semaphore count 0 to 99."
 const THREADS: usize = 16;
+
 const SEMAPHORES: usize = 8;
+
 const TOP_PRIORITY: u8 = 31;
+
 const MOST_TICKS: u32 = 99999;
+
 const MOST_COUNT: u8 = 99;
 
 // "Its length is 600."
@@ -52,7 +56,11 @@ fn settings_ok(priority: u8, turn: u32) -> bool
 fn turn_ok(counter: u32, place: u8, turn: u32) -> bool
     ensures { λ r. ⌜ r ≡ (if eqb place 1 then leb 1 counter && leb counter turn else eqb counter turn) ⌝ }
 {
-    if place == 1 { 1 <= counter && counter <= turn } else { counter == turn }
+    if place == 1 {
+        1 <= counter && counter <= turn
+    } else {
+        counter == turn
+    }
 }
 
 fn counter_ok(w: Wait, suspended: bool, place: u8, turn: u32) -> bool
@@ -189,7 +197,15 @@ fn used_ok(t: &[u8], i: usize, th: Thread) -> bool
 // PLACES
 
 // Takes the place that a thread in use has in the line that its wait names, if nobody has it.
-fn take_place(ready: &mut [u16; 32], waiters: &mut [u16; 8], senders: &mut [u16; 16], w: Wait, suspended: bool, priority: u8, place: u8) -> bool
+fn take_place(
+    ready: &mut [u16; 32],
+    waiters: &mut [u16; 8],
+    senders: &mut [u16; 16],
+    w: Wait,
+    suspended: bool,
+    priority: u8,
+    place: u8,
+) -> bool
     requires { ⌜ (priority ≤ topPriority) × Within w ⌝ }
     ensures { λ r. ⌜ ((ts : List Thread) (i : ℕ) → i < length ts → line (at ts i) ≡ waitLine w suspended priority → at ts i .place ≡ place
         → Seats (now (ready .entry)) (now (waiters .entry)) (now (senders .entry)) (take i ts)
@@ -222,7 +238,14 @@ fn not_above(th: Thread, limit: u8) -> bool
 
 // ONE THREAD
 
-fn thread_ok(t: &[u8], i: usize, limit: u8, ready: &mut [u16; 32], waiters: &mut [u16; 8], senders: &mut [u16; 16]) -> bool
+fn thread_ok(
+    t: &[u8],
+    i: usize,
+    limit: u8,
+    ready: &mut [u16; 32],
+    waiters: &mut [u16; 8],
+    senders: &mut [u16; 16],
+) -> bool
     requires { ⌜ (i < printer .threads) × (length (now t) ≡ tableLength printer) ⌝ }
     ensures { λ r. ⌜ ((s : State) → decode printer (now (t .entry)) ≡ s
         → Seats (now (ready .entry)) (now (waiters .entry)) (now (senders .entry)) (take i (s .threads))
@@ -242,7 +265,15 @@ fn thread_ok(t: &[u8], i: usize, limit: u8, ready: &mut [u16; 32], waiters: &mut
     if !not_above(th, limit) {
         return false;
     }
-    take_place(ready, waiters, senders, w, th.suspended, th.priority, th.place)
+    take_place(
+        ready,
+        waiters,
+        senders,
+        w,
+        th.suspended,
+        th.priority,
+        th.place,
+    )
 }
 
 // ALL THREADS

@@ -57,8 +57,7 @@ loop-again c = (
 -- src/lib.rt:19:1
 returns : tie.Need-returns Inv-loop μ-loop
 returns c =
-    let z = words-behind (c .before .before .before .args .t .now) (c .before .before .before .args .base) in
-    (
+    let z = words-behind (c .before .before .before .args .t .now) (c .before .before .before .args .base) in (
       λ e. let w = c .before .loop .inv .2 .0 (eqb-true _ 0 e) in (w .0, z .0 (λ q h. w .1 q (omega arith))),
       λ h. eq-eqb _ 0 (c .before .loop .inv .2 .1 (h .0, λ q l. z .1 (h .1) q (omega arith))),
     )

@@ -33,12 +33,12 @@ returns-3 : tie.Need-returns-3
 returns-3 c = (
   λ e. record { inReady = search needs; inWaiters = search needs; inSenders = search needs },
   (
-  λ e. record {
-    inReady = sym (c .before .before .before .before .before .before .no-gaps .ensures) ∙ not-false _ (c .before .before .before .before .before .if1 .left);
-    inWaiters = sym (c .before .before .before .no-gaps2 .ensures) ∙ not-false _ (c .before .before .if2 .left);
-    inSenders = sym (c .no-gaps3 .ensures) ∙ e;
-  },
-  λ h. c .no-gaps3 .ensures ∙ h .inSenders,
+    λ e. record {
+      inReady = sym (c .before .before .before .before .before .before .no-gaps .ensures) ∙ not-false _ (c .before .before .before .before .before .if1 .left);
+      inWaiters = sym (c .before .before .before .no-gaps2 .ensures) ∙ not-false _ (c .before .before .if2 .left);
+      inSenders = sym (c .no-gaps3 .ensures) ∙ e;
+    },
+    λ h. c .no-gaps3 .ensures ∙ h .inSenders,
   ),
 )
 

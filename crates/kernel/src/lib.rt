@@ -1,0 +1,96 @@
+// The kernel: a request's step, and the one door that the firmware calls.
+ghost use mathlib.Core.Path.{_≡_};
+ghost use Rattle.rules.specs.Board.{printer};
+ghost use Rattle.rules.specs.Steps.{step};
+ghost use Rattle.rules.specs.Door.{door};
+ghost use Rattle.waiting.specs.Does.{Serves, Does};
+use rules::Answer;
+use rules::Decoded;
+use rules::Refusal;
+use rules::Request;
+
+// "An 8-byte answer area."
+const AREA: usize = 8;
+
+// "Table unsound, or answer area not 8 bytes."
+const BAD_TABLE: i32 = -7;
+
+// "Record not 12 bytes, operation above 20, byte 3 or an unused field not zero."
+const BAD_RECORD: i32 = -8;
+
+// A step: each request by its own operation.
+fn step(t: &mut [u8], request: Request) -> Answer
+    requires { ⌜ Serves printer (now t) ⌝ }
+    ensures { λ r. ⌜ Does printer (now (t .entry)) (now (t .exit)) r (λ s. step s request) ⌝ }
+{
+    match request {
+        Request::Yield => threads::yield_turn(t),
+        Request::Create {
+            thread,
+            priority,
+            turn,
+        } => threads::create(t, thread, priority, turn),
+        Request::Delete { thread } => threads::delete(t, thread),
+        Request::Set {
+            thread,
+            priority,
+            turn,
+        } => threads::set(t, thread, priority, turn),
+        Request::Suspend { thread } => threads::suspend(t, thread),
+        Request::Resume { thread } => threads::resume(t, thread),
+        Request::Delay { number } => threads::delay(t, number),
+        Request::Cancel { thread } => threads::cancel(t, thread),
+        Request::Send {
+            thread,
+            number,
+            parcel,
+        } => mail::send(t, thread, number, parcel),
+        Request::SendFromInterrupt { thread, parcel } => mail::send_from_interrupt(
+            t,
+            thread,
+            parcel,
+        ),
+        Request::Receive { number } => mail::receive(t, number),
+        Request::Make { semaphore, number } => semaphores::make(t, semaphore, number),
+        Request::Drop { semaphore } => semaphores::drop_semaphore(t, semaphore),
+        Request::Pend { semaphore, number } => semaphores::pend(t, semaphore, number),
+        Request::Abort { thread } => semaphores::abort(t, thread),
+        Request::Post { semaphore, number } => semaphores::post(t, semaphore, number),
+        Request::PostFromInterrupt { semaphore, number } => semaphores::post_from_interrupt(
+            t,
+            semaphore,
+            number,
+        ),
+        Request::Lock => time::lock(t),
+        Request::Unlock => time::unlock(t),
+        Request::Tick => time::tick(t),
+        Request::Outcome { thread } => time::outcome(t, thread),
+    }
+}
+
+// The door: for every table, record and answer area, whatever their lengths and bytes. The code is given back too.
+#[no_mangle]
+pub extern "C" fn speltmallet_door(table: &mut [u8], request: &[u8], answer: &mut [u8]) -> i32
+    ensures code { λ r. ⌜ r ≡ door printer (now (table .entry)) (now (request .entry)) (now (answer .entry)) .code ⌝ }
+    ensures table { λ _. ⌜ now (table .exit) ≡ door printer (now (table .entry)) (now (request .entry)) (now (answer .entry)) .table ⌝ }
+    ensures area { λ _. ⌜ now (answer .exit) ≡ door printer (now (table .entry)) (now (request .entry)) (now (answer .entry)) .area ⌝ }
+{
+    if answer.len() != AREA {
+        return BAD_TABLE;
+    }
+    if !sound::sound(table) {
+        return BAD_TABLE;
+    }
+    let Decoded::Asked { request: asked } = request::decode(request) else {
+        answer::put_answer(
+            answer,
+            Answer::Refused {
+                why: Refusal::BadRecord,
+            },
+        );
+        return BAD_RECORD;
+    };
+    let given = step(table, asked);
+    answer::put_answer(answer, given);
+    answer::code(given)
+}

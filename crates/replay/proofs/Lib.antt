@@ -1,0 +1,3 @@
+-- Laws of replays.
+pub mod Line
+pub mod Progress

@@ -1,0 +1,2 @@
+-- What a replay of records promises.
+pub mod Replay

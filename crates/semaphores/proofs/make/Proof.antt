@@ -1,0 +1,64 @@
+-- `semaphores::make` meets its contract: each way out is a branch of the rule. Assumes nothing.
+use native.Mathlib.Omega.{arith}
+use lib.ListN.{length}
+use borrow.Author.Needs.{needs}
+use borrow.Author.Tests.{le-leb, lt-leb, lt-ltb, le-ltb}
+use Rattle.rules.specs.Board.{mostCount, printer}
+use Rattle.rules.specs.Semaphores.{doMake}
+use Rattle.layout.proofs.Held.{said-on, holds-on}
+use Rattle.waiting.proofs.Doing.{does-nothing, then-does}
+use Rattle.semaphores.proofs.make.Statement.{statement}
+use Rattle.semaphores.proofs.make.Tie as tie
+
+returns : tie.Need-returns
+unfolding doMake
+returns c = does-nothing (c .before .before .pre .whole) (λ s e. rw (le-leb (length (s .sems)) (c .before .before .args .k) (omega (arith, said-on printer _ e .sems))))
+
+load-sem-requires : tie.Need-load-sem-requires
+load-sem-requires c κs = search needs
+
+same-length : tie.Need-same-length
+same-length c = search needs
+
+returns-2 : tie.Need-returns-2
+unfolding doMake
+returns-2 c = does-nothing (c .before .before .before .before .before .pre .whole) (λ s e. rw (lt-leb (length (s .sems)) (c .before .before .before .before .before .args .k) (omega (arith, said-on printer _ e .sems)), ← c .before .load-sem .ensures s e, c .if2 .taken))
+
+same-length-2 : tie.Need-same-length-2
+same-length-2 c = search needs
+
+returns-3 : tie.Need-returns-3
+unfolding doMake
+returns-3 c = does-nothing (c .before .before .before .before .before .before .pre .whole) (λ s e. rw (lt-leb (length (s .sems)) (c .before .before .before .before .before .before .args .k) (omega (arith, said-on printer _ e .sems)), ← c .before .before .load-sem .ensures s e, c .before .if2 .left, lt-ltb mostCount (c .before .before .before .before .before .before .args .n) (c .if3 .taken)))
+
+cast-set-count : tie.Need-cast-set-count
+cast-set-count c = search needs
+
+set-count-requires : tie.Need-set-count-requires
+set-count-requires c κs = search needs
+
+accept-requires : tie.Need-accept-requires
+accept-requires c κs = search needs
+
+same-length-3 : tie.Need-same-length-3
+same-length-3 c = search needs
+
+returns-4 : tie.Need-returns-4
+unfolding doMake
+returns-4 c = then-does (c .before .before .before .before .before .before .set-count .ensures) (c .before .before .accept .ensures) (λ s h. rw (lt-leb (length (s .sems)) (c .before .before .before .before .before .before .before .before .before .before .before .before .before .before .args .k) (omega (arith, holds-on h .sems)), ← c .before .before .before .before .before .before .before .before .before .before .load-sem .ensures s (h .says), c .before .before .before .before .before .before .before .before .before .if2 .left, le-ltb mostCount (c .before .before .before .before .before .before .before .before .before .before .before .before .before .before .args .n) (c .before .before .before .before .before .before .before .before .if3 .left)))
+
+pub make-spec : {M : Type 1} → statement M
+make-spec =
+    tie.close
+    (tie.spec
+    returns
+    load-sem-requires
+    same-length
+    returns-2
+    same-length-2
+    returns-3
+    cast-set-count
+    set-count-requires
+    accept-requires
+    same-length-3
+    returns-4)

@@ -1,0 +1,87 @@
+-- `semaphores::post` meets its contract: each way out is a branch of the rule. Assumes nothing.
+use native.Mathlib.Omega.{arith}
+use borrow.Author.Needs.{needs}
+use Rattle.rules.specs.Board.{printer}
+use Rattle.rules.specs.Lines.{waiters}
+use Rattle.rules.specs.Semaphores.{countOf, tooMany, posted, doPost}
+use Rattle.layout.proofs.Held.{_⨾_}
+use Rattle.waiting.proofs.Doing.{does-nothing, then-does}
+use Rattle.semaphores.proofs.Numbers.{sem-there, sum-fits}
+use Rattle.semaphores.proofs.post.Statement.{statement}
+use Rattle.semaphores.proofs.post.Tie as tie
+
+sem-at-requires : tie.Need-sem-at-requires
+sem-at-requires c κs = search needs
+
+same-length : tie.Need-same-length
+same-length c = search needs
+
+returns : tie.Need-returns
+unfolding doPost
+returns c = does-nothing (c .before .before .before .before .before .pre .whole) (λ s e. rw (← c .before .before .sem-at .ensures s e, c .if1 .taken))
+
+too-many-requires : tie.Need-too-many-requires
+too-many-requires c κs = search needs
+
+same-length-2 : tie.Need-same-length-2
+same-length-2 c = search needs
+
+returns-2 : tie.Need-returns-2
+unfolding doPost
+returns-2 c = does-nothing (c .before .before .before .before .before .before .before .pre .whole) (λ s e. rw (← c .before .before .before .before .sem-at .ensures s e, tooMany, countOf, c .before .before .if1 .left, ← c .before .too-many .ensures, c .if2 .taken))
+
+cast-units : tie.Need-cast-units
+cast-units c = omega (arith, sum-fits (c .before .before .before .before .sem-at .result .count) (c .before .before .before .before .before .before .before .args .n) (c .before .too-many .ensures) (c .if2 .left))
+
+waiters-line-requires : tie.Need-waiters-line-requires
+waiters-line-requires c κs = search needs
+
+line-length-requires : tie.Need-line-length-requires
+line-length-requires c κs = search needs
+
+least-requires : tie.Need-least-requires
+least-requires c κs = search needs
+
+serve-requires : tie.Need-serve-requires
+serve-requires c κs = search needs
+
+sub-set-count : tie.Need-sub-set-count
+sub-set-count c = search needs
+
+add-set-count : tie.Need-add-set-count
+add-set-count c = omega (arith, sum-fits (c .before .before .before .before .before .before .before .before .before .before .before .before .before .before .sem-at .result .count) (c .before .before .before .before .before .before .before .before .before .before .before .before .before .before .before .before .before .args .n) (c .before .before .before .before .before .before .before .before .before .before .before .too-many .ensures) (c .before .before .before .before .before .before .before .before .before .before .if2 .left))
+
+set-count-requires : tie.Need-set-count-requires
+set-count-requires c κs = (sem-there printer _ (c .before .before .before .before .before .before .before .before .before .before .before .before .before .before .before .before .before .args .k) (c .before .before .before .before .before .before .before .before .before .before .before .before .before .before .sem-at .ensures) (c .before .before .before .before .before .before .before .before .before .before .before .before .if1 .left), c .before .before .before .before .serve .ensures (waiters (c .before .before .before .before .before .before .before .before .before .before .before .before .before .before .before .before .before .args .k)) (c .before .before .before .before .before .before .before .before .before .waiters-line .ensures) .whole)
+
+accept-requires : tie.Need-accept-requires
+accept-requires c κs = search needs
+
+same-length-3 : tie.Need-same-length-3
+same-length-3 c = search needs
+
+returns-3 : tie.Need-returns-3
+unfolding posted doPost
+returns-3 c = then-does (c .before .before .before .before .before .before .before .before .before .before .before .serve .ensures (waiters (c .before .before .before .before .before .before .before .before .before .before .before .before .before .before .before .before .before .before .before .before .before .before .before .before .args .k)) (c .before .before .before .before .before .before .before .before .before .before .before .before .before .before .before .before .waiters-line .ensures) ⨾ c .before .before .before .before .before .before .set-count .ensures) (c .before .before .accept .ensures) (λ s h. rw (← c .before .before .before .before .before .before .before .before .before .before .before .before .before .before .before .before .before .before .before .before .before .sem-at .ensures s (h .says), tooMany, countOf, c .before .before .before .before .before .before .before .before .before .before .before .before .before .before .before .before .before .before .before .if1 .left, ← c .before .before .before .before .before .before .before .before .before .before .before .before .before .before .before .before .before .before .too-many .ensures, c .before .before .before .before .before .before .before .before .before .before .before .before .before .before .before .before .before .if2 .left, ← c .before .before .before .before .before .before .before .before .before .before .before .before .before .before .line-length .ensures s (waiters (c .before .before .before .before .before .before .before .before .before .before .before .before .before .before .before .before .before .before .before .before .before .before .before .before .args .k)) (h .says) (c .before .before .before .before .before .before .before .before .before .before .before .before .before .before .before .before .waiters-line .ensures), ← c .before .before .before .before .before .before .before .before .before .before .before .before .before .least .ensures))
+
+pub post-spec : {M : Type 1} → statement M
+post-spec =
+    tie.close
+    (tie.spec
+    sem-at-requires
+    same-length
+    returns
+    too-many-requires
+    same-length-2
+    returns-2
+    cast-units
+    waiters-line-requires
+    line-length-requires
+    least-requires
+    serve-requires
+    sub-set-count
+    add-set-count
+    set-count-requires
+    accept-requires
+    same-length-3
+    returns-3)

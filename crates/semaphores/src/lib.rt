@@ -1,0 +1,214 @@
+// Semaphores: Make, Drop, Pend, Abort, Post, Post from interrupt. Each operation tests its refusals in document 01's order, before the
+// first write.
+//
+// The promises are those of crate `waiting`: `Becomes` for a change, `Does` for an operation.
+ghost use mathlib.Core.Bool.{_||_};
+ghost use mathlib.Core.Path.{_≡_};
+ghost use Prim.Native.Nat.{_+_, _<_, min};
+ghost use lib.Dec.{eqb, ltb};
+ghost use lib.ListN.{length};
+ghost use Rattle.rules.specs.Board.{printer, tableLength, mostCount};
+ghost use Rattle.rules.specs.State.{State, semAt, pending};
+ghost use Rattle.rules.specs.Table.{decode};
+ghost use Rattle.rules.specs.Semaphores.{withCount, doMake, doDrop, doPend, doAbort, doPost, doPostFromInterrupt};
+ghost use Rattle.layout.specs.Held.{Whole, Becomes};
+ghost use Rattle.waiting.specs.Does.{Serves, Does};
+use rules::Answer;
+use rules::Outcome;
+use rules::Refusal;
+use rules::Sem;
+use rules::Wait;
+
+// How many semaphores there are.
+const SEMAPHORES: usize = 8;
+
+// "Semaphore count 0 to 99."
+const MOST_COUNT: u32 = 99;
+
+// SEMAPHORES BY NUMBER
+
+// Semaphore `k`, by the number that a request gives: one out of range reads as a free record.
+fn sem_at(t: &[u8], k: u8) -> Sem
+    requires { ⌜ length (now t) ≡ tableLength printer ⌝ }
+    ensures { λ r. ⌜ ((s : State) → decode printer (now (t .entry)) ≡ s → r ≡ semAt (s .sems) k) ⌝ }
+{
+    let j = k as usize;
+    if j >= SEMAPHORES {
+        return Sem {
+            used: false,
+            count: 0,
+        };
+    }
+    records::load_sem(t, j)
+}
+
+// Semaphore `k` is in use with that count.
+fn set_count(t: &mut [u8], k: usize, count: u8)
+    requires { ⌜ (k < printer .sems) × Whole printer (now t) ⌝ }
+    ensures { λ _. ⌜ Becomes printer (now (t .entry)) (now (t .exit)) (withCount k count) ⌝ }
+{
+    records::set_sem(t, k, Sem { used: true, count });
+}
+
+// MAKE AND DROP
+
+// Refused in the order −6, −5.
+pub fn make(t: &mut [u8], k: u8, n: u32) -> Answer
+    requires { ⌜ Serves printer (now t) ⌝ }
+    ensures { λ r. ⌜ Does printer (now (t .entry)) (now (t .exit)) r (λ s. doMake s k n) ⌝ }
+{
+    let j = k as usize;
+    if j >= SEMAPHORES {
+        return Answer::Refused {
+            why: Refusal::BadSemaphore,
+        };
+    }
+    let e = records::load_sem(t, j);
+    if e.used {
+        return Answer::Refused {
+            why: Refusal::BadSemaphore,
+        };
+    }
+    if n > MOST_COUNT {
+        return Answer::Refused {
+            why: Refusal::BadOperation,
+        };
+    }
+    set_count(t, j, n as u8);
+    waiting::accept(t, 0)
+}
+
+// Its waiters end with −5 in line order, and its record is free. Refused by −6.
+pub fn drop_semaphore(t: &mut [u8], k: u8) -> Answer
+    requires { ⌜ Serves printer (now t) ⌝ }
+    ensures { λ r. ⌜ Does printer (now (t .entry)) (now (t .exit)) r (λ s. doDrop s k) ⌝ }
+{
+    let e = sem_at(t, k);
+    if !e.used {
+        return Answer::Refused {
+            why: Refusal::BadSemaphore,
+        };
+    }
+    let line = lines::waiters_line(k);
+    let n = lines::line_length(t, line);
+    waiting::serve(t, n, line, Outcome::Failed);
+    records::set_sem(
+        t,
+        k as usize,
+        Sem {
+            used: false,
+            count: 0,
+        },
+    );
+    waiting::accept(t, 0)
+}
+
+// PEND AND ABORT
+
+// One is taken and the value is what is left, or the caller must wait by number `n`. Refused in the order −6, −5.
+pub fn pend(t: &mut [u8], k: u8, n: u32) -> Answer
+    requires { ⌜ Serves printer (now t) ⌝ }
+    ensures { λ r. ⌜ Does printer (now (t .entry)) (now (t .exit)) r (λ s. doPend s k n) ⌝ }
+{
+    let e = sem_at(t, k);
+    if !e.used {
+        return Answer::Refused {
+            why: Refusal::BadSemaphore,
+        };
+    }
+    if e.count > 0 {
+        let left = e.count - 1;
+        set_count(t, k as usize, left);
+        return waiting::accept(t, left as u32);
+    }
+    let counter = waiting::wait_counter(n);
+    waiting::must_wait(t, n, Wait::Semaphore { on: k, counter }, 0)
+}
+
+// Does a wait wait on a semaphore?
+fn is_pending(w: Wait) -> bool
+    ensures { λ r. ⌜ r ≡ pending w ⌝ }
+{
+    match w {
+        Wait::Nothing { counter: _ } => false,
+        Wait::Delay { counter: _ } => false,
+        Wait::Receive { counter: _ } => false,
+        Wait::Send { to: _, counter: _ } => false,
+        Wait::Semaphore { on: _, counter: _ } => true,
+    }
+}
+
+// A wait on a semaphore is broken off.
+pub fn abort(t: &mut [u8], i: u8) -> Answer
+    requires { ⌜ Serves printer (now t) ⌝ }
+    ensures { λ r. ⌜ Does printer (now (t .entry)) (now (t .exit)) r (λ s. doAbort s i) ⌝ }
+{
+    let th = threads::thread_at(t, i);
+    let w = th.wait;
+    threads::break_off(t, i, is_pending(w))
+}
+
+// POST
+
+// "Number is 0 or count + number is above 99."
+fn too_many(count: u8, n: u32) -> bool
+    ensures { λ r. ⌜ r ≡ (eqb n 0 || ltb mostCount (count + n)) ⌝ }
+{
+    if n == 0 {
+        return true;
+    }
+    if n > MOST_COUNT {
+        return true;
+    }
+    count as u32 + n > MOST_COUNT
+}
+
+// The smaller of two.
+fn least(a: u8, b: u8) -> u8
+    ensures { λ r. ⌜ r ≡ min a b ⌝ }
+{
+    if a < b { a } else { b }
+}
+
+// The units go to the waiters in line order, and the rest is added to the count. Refused in the order −6, −5.
+pub fn post(t: &mut [u8], k: u8, n: u32) -> Answer
+    requires { ⌜ Serves printer (now t) ⌝ }
+    ensures { λ r. ⌜ Does printer (now (t .entry)) (now (t .exit)) r (λ s. doPost s k n) ⌝ }
+{
+    let e = sem_at(t, k);
+    if !e.used {
+        return Answer::Refused {
+            why: Refusal::BadSemaphore,
+        };
+    }
+    if too_many(e.count, n) {
+        return Answer::Refused {
+            why: Refusal::BadOperation,
+        };
+    }
+    let units = n as u8;
+    let line = lines::waiters_line(k);
+    let served = least(units, lines::line_length(t, line));
+    waiting::serve(t, served, line, Outcome::Done);
+    set_count(t, k as usize, e.count + (units - served));
+    waiting::accept(t, 0)
+}
+
+// A Post that is refused by −5 under lock too.
+pub fn post_from_interrupt(t: &mut [u8], k: u8, n: u32) -> Answer
+    requires { ⌜ Serves printer (now t) ⌝ }
+    ensures { λ r. ⌜ Does printer (now (t .entry)) (now (t .exit)) r (λ s. doPostFromInterrupt s k n) ⌝ }
+{
+    let e = sem_at(t, k);
+    if !e.used {
+        return Answer::Refused {
+            why: Refusal::BadSemaphore,
+        };
+    }
+    if records::lock(t) > 0 {
+        return Answer::Refused {
+            why: Refusal::BadOperation,
+        };
+    }
+    post(t, k, n)
+}
