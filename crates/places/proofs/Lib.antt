@@ -1,4 +1,4 @@
 -- Laws of the places that are taken.
 mod Bits
 pub mod Taking
-pub mod Seats
+pub mod Rule

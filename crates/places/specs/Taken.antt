@@ -38,7 +38,7 @@ abbrev pub noGap : ℕ → Bool
 noGap word = leb (bitOr (word / 2) word) word
 
 -- of these threads nobody has the place that a thread has in its line; in no line the place is 0
-unfoldable pub isFree : List Thread → Thread → Bool
-isFree ts t =
+unfoldable pub unshared : List Thread → Thread → Bool
+unshared ts t =
     if isNowhere (line t) then eqb (t .place) 0 else
     leb 1 (t .place) && leb (t .place) (printer .threads) && eqb (count (standsAt (line t) (t .place)) ts) 0

@@ -1,8 +1,8 @@
 -- Laws that the test of a table cites.
 mod Found
 mod Used
-mod Seating
+mod OnePlace
 mod Threads
-mod Placing
+mod AllPlaces
 mod Running
 mod Parts

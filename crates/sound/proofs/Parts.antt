@@ -1,34 +1,34 @@
 -- A table is sound exactly when each part of it that is tested passes: its bytes are those of its state when those of every record
 -- are, and the state is sound when every record is, and who runs. Assumes nothing.
-use mathlib.Core.Bool.{true, false, _&&_}
+use mathlib.Core.Bool.{true, false}
 use mathlib.Core.Path.{_≡_, refl}
-use mathlib.Core.Logic.{_↔_}
 use mathlib.Core.List.{List}
 use Prim.Native.Nat.{ℕ, _+_, _*_, _<_}
 use native.Mathlib.Omega.{arith}
 use native.Mathlib.Decide.{decLt}
 use lib.ListN.{length, getD}
+use Rattle.rules.specs.Basic.{allBelow}
 use Rattle.rules.specs.Board.{printer, recordLength, tableLength}
-use Rattle.rules.specs.State.{freeSem, at, semAt}
+use Rattle.rules.specs.State.{at, semAt}
 use Rattle.rules.specs.Table.{decode}
-use Rattle.rules.specs.Test.{semOk, initOk, threadOk, sound, soundTable}
+use Rattle.rules.specs.Test.{semOk, threadOk, initOk, kernelOk, sound, soundTable}
 use Rattle.laws.proofs.Split.{clash, pass-together, and-true, and-both}
 use Rattle.laws.proofs.Reflect.{and-says, eqb-says}
-use Rattle.laws.proofs.Counts.{all-of, below-of, bytes-same}
+use Rattle.laws.proofs.Counts.{below-at, below-of, bytes-same}
 use Rattle.laws.proofs.Tested.{threads-say, sems-say}
 use Rattle.layout.specs.Bytes.{semsFrom, kernelFrom}
 use Rattle.layout.specs.Canon.{restZero, semCanon, Canon}
 use Rattle.layout.specs.Held.{Whole}
 use Rattle.layout.proofs.Canonical.{canon-encoded, encoded-canon}
-use Rattle.sound.specs.Tested.{Runs}
+use Rattle.sound.specs.Tested.{Threads, semTest}
 use Rattle.sound.proofs.Found.{threads-long, no-sem}
 
 pub record Parts (t : List ℕ) : Type 0 where
   pub long : length t ≡ tableLength printer
   pub kernel : restZero t (kernelFrom printer) ≡ true
-  pub sems : (k : ℕ) → k < printer .sems → semCanon t (semsFrom printer + k * recordLength) && semOk (semAt (decode printer t .sems) k) ≡ true
+  pub sems : allBelow (printer .sems) (semTest t (decode printer t)) ≡ true
   pub init : initOk (at (decode printer t .threads) 0) ≡ true
-  pub runs : Runs t (decode printer t)
+  pub runs : Threads t (decode printer t) × (kernelOk (decode printer t) ≡ true)
 
 module _ (t : List ℕ) where
   pub sound-whole : soundTable printer t ≡ true → Whole printer t
@@ -36,7 +36,7 @@ module _ (t : List ℕ) where
   sound-whole e = let x = simp (and-says, eqb-says, bytes-same) at e in record { long = x .0 .0; meaning = x .0 .1 }
 
   pub sound-parts : soundTable printer t ≡ true → Parts t
-  unfolding soundTable sound
+  unfolding soundTable sound semTest
   sound-parts e =
       let x = simp (and-says, eqb-says, bytes-same) at e in
       let s = decode printer t in
@@ -44,21 +44,21 @@ module _ (t : List ℕ) where
       record {
         long = x .0 .0;
         kernel = canon .kernel;
-        sems = λ k h. and-both _ _ (canon .sems k h) (sems-say (s .sems) .0 (x .1 .0 .0 .1) k);
+        sems = below-of (printer .sems) (semTest t s) (λ k h. and-both _ _ (canon .sems k h) (sems-say (s .sems) .0 (x .1 .0 .0 .1) k));
         init = x .1 .0 .1;
-        runs = record { canon = canon .threads; each = λ i h. threads-say s .0 (x .1 .0 .0 .0) i; kernel = x .1 .1 };
+        runs = (record { canon = canon .threads; each = λ i h. threads-say s .0 (x .1 .0 .0 .0) i }, x .1 .1);
       }
 
   pub parts-sound : ((k : ℕ) → getD t k 0 < 256) → Parts t → soundTable printer t ≡ true
-  unfolding soundTable sound semOk
+  unfolding soundTable sound semOk semTest
   parts-sound byte p =
       let s = decode printer t in
-      let sem : (k : ℕ) (h : k < printer .sems) → _ = λ k h. and-true (semCanon t (semsFrom printer + k * recordLength)) (semOk (semAt (s .sems) k)) (p .sems k h) in
-      let canon : Canon printer t = record { long = p .long; threads = p .runs .canon; sems = λ k h. sem k h .0; kernel = p .kernel } in
+      let sem : (k : ℕ) (h : k < printer .sems) → _ = λ k h. and-true (semCanon t (semsFrom printer + k * recordLength)) (semOk (semAt (s .sems) k)) (below-at (printer .sems) (semTest t s) (p .sems) k h) in
+      let canon : Canon printer t = record { long = p .long; threads = p .runs .0 .canon; sems = λ k h. sem k h .0; kernel = p .kernel } in
       let each : (k : ℕ) → semOk (semAt (s .sems) k) ≡ true = λ k. elim (decLt k (printer .sems)) [ yes h ↦ sem k h .1 | no h ↦ rw (no-sem t refl k (omega arith)) ] in
       simp (and-says, eqb-says, bytes-same) (
         (p .long, canon-encoded byte canon),
-        (((below-of (length (s .threads)) (threadOk s) (λ i h. p .runs .each i (omega (arith, threads-long t refl))), sems-say (s .sems) .1 each), p .init), p .runs .kernel),
+        (((below-of (length (s .threads)) (threadOk s) (λ i h. p .runs .0 .each i (omega (arith, threads-long t refl))), sems-say (s .sems) .1 each), p .init), p .runs .1),
       )
 
   -- a test that fails

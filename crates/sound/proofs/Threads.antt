@@ -11,33 +11,32 @@ use Rattle.rules.specs.Basic.{if_then_else_}
 use Rattle.rules.specs.Board.{printer, recordLength, tableLength, topPriority}
 use Rattle.rules.specs.State.{State, On, free, freeSem, at}
 use Rattle.rules.specs.Lines.{nowhere, waitLine, line}
-use Rattle.rules.specs.Table.{waitOf, outcomeOf, threadRow, threadOf, encode, decode}
+use Rattle.rules.specs.Table.{waitOf, outcomeOf, threadRow, threadOf, decode}
 use Rattle.rules.specs.Test.{freeOk, objectOk, usedOk, notAbove}
 use Rattle.rules.specs.declared.Thread.{Thread}
 use Rattle.rules.specs.declared.Sem.{Sem}
 use Rattle.rules.specs.declared.Wait.{Wait}
 use Rattle.rules.specs.declared.Wait.the-variants.{Nothing, Delay, Receive, Send, Semaphore}
-use Rattle.laws.proofs.Split.{clash, and-true}
+use Rattle.laws.proofs.Split.{clash}
 use Rattle.laws.proofs.Reflect.{and-says, if-says, leb-says}
 use Rattle.laws.proofs.Counts.{within}
 use Rattle.laws.proofs.Records.{free-says}
 use Rattle.layout.specs.Bytes.{recordAt}
 use Rattle.layout.specs.Canon.{headCanon, threadCanon}
-use Rattle.layout.specs.Held.{Whole}
 use Rattle.layout.proofs.Records.{record-is, thread-byte}
 use Rattle.layout.proofs.RoundTrip.{on-decode}
 use Rattle.layout.proofs.Said.{thread-said}
 use Rattle.canon.specs.Zero.{recordZero}
 use Rattle.canon.proofs.Zeros.{record-zeros, zeros-record}
-use Rattle.places.specs.Taken.{isFree}
-use Rattle.sound.specs.Tested.{Seats, Seated, Within, Passed, ThreadTested}
+use Rattle.places.specs.Taken.{unshared}
+use Rattle.sound.specs.Tested.{Decides, InTable, AllTaken, Passes}
 use Rattle.sound.proofs.Found.{threads-long}
-use Rattle.sound.proofs.Seating.{nowhere-seated}
+use Rattle.sound.proofs.OnePlace.{nowhere-takes}
 
 -- A THREAD IN USE
 
 -- what it waits for is in the table
-object-within : (s : State) → On printer s → (i : ℕ) (w : Wait) (full : Bool) → objectOk s i w full ≡ true → Within w
+object-within : (s : State) → On printer s → (i : ℕ) (w : Wait) (full : Bool) → objectOk s i w full ≡ true → InTable w
 object-within s on i (Nothing n) full e = tt
 object-within s on i (Delay n) full e = tt
 object-within s on i (Receive n) full e = tt
@@ -48,7 +47,7 @@ object-within s on i (Semaphore k n) full e =
     let x = simp and-says at e in
     omega (arith, within (λ (e : Sem). e .used) freeSem refl (s .sems) k (x .0), on .sems)
 
-pub used-within : (s : State) → On printer s → (i : ℕ) (th : Thread) → usedOk s i th ≡ true → (th .priority ≤ topPriority) × Within (th .wait)
+pub used-within : (s : State) → On printer s → (i : ℕ) (th : Thread) → usedOk s i th ≡ true → (th .priority ≤ topPriority) × InTable (th .wait)
 unfolding usedOk
 used-within s on i th e = let x = simp (and-says, leb-says) at e in (x .0 .0 .0 .0 .0 .0, object-within s on i (th .wait) (th .full) (x .0 .0 .0 .1))
 
@@ -61,30 +60,25 @@ as-read f p e = ap f (sym p) ∙ e
 pub line-read : {th now : Thread} → th ≡ now → th .used ≡ true → line now ≡ waitLine (th .wait) (th .suspended) (th .priority)
 line-read {th} p u = ap line (sym p) ∙ ap (λ b. if b then waitLine (th .wait) (th .suspended) (th .priority) else nowhere) u
 
-module _ {t : List ℕ} {s : State} {limit i : ℕ} {readies pends sends : List ℕ} where
-  pub fails : (Passed t s limit i → ⊥) → ThreadTested false t s limit i readies pends sends
-  fails h = record { passed = λ e. absurd (clash e refl); passes = λ w p. absurd (h p); seats = λ e. absurd (clash e refl) }
+-- what fails fails
+pub fails : {t : List ℕ} {P : Type 0} → (P → ⊥) → Decides false t P
+fails h = record { passed = λ e. absurd (clash e refl); passes = λ w p. absurd (h p) }
 
-  -- a thread in use, as it was read
-  module _ {th : Thread} (this : th ≡ at (s .threads) i) (u : th .used ≡ true) where
-    pub used-fails : usedOk s i th ≡ false → ThreadTested false t s limit i readies pends sends
-    used-fails e = fails (λ p. clash (if-says _ _ _ .0 (p .own) .0 (as-read (λ th. th .used) this u)) (as-read (usedOk s i) this e))
+module _ {t : List ℕ} (s : State) (limit i : ℕ) {th : Thread} (this : th ≡ at (s .threads) i) (u : th .used ≡ true) where
+  pub used-fails : usedOk s i th ≡ false → Decides false t (Passes t s limit i)
+  used-fails e = fails (λ p. clash (if-says _ _ _ .0 (p .own) .0 (as-read (λ th. th .used) this u)) (as-read (usedOk s i) this e))
 
-    pub rank-fails : notAbove limit th ≡ false → ThreadTested false t s limit i readies pends sends
-    rank-fails e = fails (λ p. clash (p .rank) (as-read (notAbove limit) this e))
-
-    pub used-ends : {r : Bool} → threadCanon t (i * recordLength) ≡ true → usedOk s i th ≡ true → notAbove limit th ≡ true
-        → Seated r readies pends sends (s .threads) i → ThreadTested r t s limit i readies pends sends
-    used-ends c o n seated = record {
-      passed = λ e. record {
-        canon = c;
-        own = if-says _ _ _ .1 (λ z. as-read (usedOk s i) this o, λ z. absurd (clash (as-read (λ th. th .used) this u) z));
-        rank = as-read (notAbove limit) this n;
-        place = sym (seated .answer) ∙ e;
-      };
-      passes = λ w p. seated .answer ∙ p .place;
-      seats = seated .seats;
-    }
+  pub used-ends : {r : Bool} → threadCanon t (i * recordLength) ≡ true → usedOk s i th ≡ true → notAbove limit th ≡ true → r ≡ unshared (take i (s .threads)) (at (s .threads) i)
+      → Decides r t (Passes t s limit i)
+  used-ends c o n answer = record {
+    passed = λ e. record {
+      canon = c;
+      own = if-says _ _ _ .1 (λ z. as-read (usedOk s i) this o, λ z. absurd (clash (as-read (λ th. th .used) this u) z));
+      rank = as-read (notAbove limit) this n;
+      place = sym answer ∙ e;
+    };
+    passes = λ w p. answer ∙ p .place;
+  }
 
 -- A FREE RECORD
 
@@ -96,19 +90,25 @@ zeros-canon : (t : List ℕ) (base : ℕ) → ((k : ℕ) → k < recordLength �
 unfolding threadCanon headCanon
 zeros-canon t base z = rw (rw add-zero at (z 0 (omega arith)), z 2 (omega arith), z 3 (omega arith), z 4 (omega arith), z 6 (omega arith), z 7 (omega arith))
 
-module _ (t : List ℕ) (s : State) (limit i : ℕ) {readies pends sends : List ℕ} (long : length t ≡ tableLength printer) (e : decode printer t ≡ s) (inside : i < printer .threads)
-    (old : Seats readies pends sends (take i (s .threads))) where
-  pub free-ends : {th : Thread} {r : Bool} → th ≡ at (s .threads) i → th .used ≡ false
-      → r ≡ recordZero t (i * recordLength) → ThreadTested r t s limit i readies pends sends
-  unfolding freeOk isFree threadRow
-  free-ends {th} {r} this u zero =
+module _ (t : List ℕ) (s : State) (limit i : ℕ) (long : length t ≡ tableLength printer) (e : decode printer t ≡ s) (inside : i < printer .threads)
+    {r : Bool} (zero : r ≡ recordZero t (i * recordLength)) where
+  zero-free : r ≡ true → at (s .threads) i ≡ free
+  zero-free q =
+      ap (λ s. at (s .threads) i) (sym e) ∙ thread-said printer t long i inside ∙ zeros-free t (i * recordLength) (record-zeros t (i * recordLength) (sym zero ∙ q))
+
+  -- a free thread stands nowhere
+  pub free-taken : {readyWords waiterWords senderWords : List ℕ} → AllTaken readyWords waiterWords senderWords (take i (s .threads))
+      → r ≡ true → AllTaken readyWords waiterWords senderWords (take (i + 1) (s .threads))
+  free-taken old q =
+      let f = zero-free q in nowhere-takes (s .threads) i (omega (arith, threads-long t e)) old (ap (λ th. th .place) f) (ap line f) .taken refl
+
+  pub free-ends : {th : Thread} → th ≡ at (s .threads) i → th .used ≡ false → Decides r t (Passes t s limit i)
+  unfolding freeOk unshared threadRow
+  free-ends this u =
       let base = i * recordLength in
-      let none : ((k : ℕ) → k < recordLength → getD t (base + k) 0 ≡ 0) → at (s .threads) i ≡ free =
-      λ z. ap (λ s. at (s .threads) i) (sym e) ∙ thread-said printer t long i inside ∙ zeros-free t base z in
-      let zeros : r ≡ true → (k : ℕ) → k < recordLength → getD t (base + k) 0 ≡ 0 = λ q. record-zeros t base (sym zero ∙ q) in
       record {
-        passed = λ q. let f = none (zeros q) in record {
-          canon = zeros-canon t base (zeros q);
+        passed = λ q. let f = zero-free q in record {
+          canon = zeros-canon t base (record-zeros t base (sym zero ∙ q));
           own = rw f;
           rank = rw f;
           place = rw f;
@@ -118,6 +118,4 @@ module _ (t : List ℕ) (s : State) (limit i : ℕ) {readies pends sends : List 
             let f = free-says (at (s .threads) i) out .0 (if-says _ _ _ .0 (p .own) .1 out) in
             zero ∙ zeros-record t base (λ k h. ap (λ l. getD l (base + k) 0) (w .meaning) ∙ thread-byte (on-decode printer t) i k inside h
             ∙ ap (λ th. getD (threadRow th) k 0) (ap (λ s. at (s .threads) i) e ∙ f) ∙ getD-replicate recordLength k 0 0 h);
-        seats = λ q. let f = none (zeros q) in
-            nowhere-seated (s .threads) i (omega (arith, threads-long t e)) old (ap (λ th. th .place) f) (ap line f) .seats refl;
       }

@@ -1,22 +1,28 @@
--- What the test of a table finds out of its threads, in the order in which it asks.
+-- What the test of a table finds out, in the order in which it asks.
 use mathlib.Core.Bool.{Bool, true, not, _&&_, _||_}
 use mathlib.Core.Path.{_≡_}
 use mathlib.Core.List.{List}
-use Prim.Native.Nat.{ℕ, suc, _+_, _*_, _≤_, _<_}
+use Prim.Native.Nat.{ℕ, suc, _+_, _*_, _<_}
 use lib.Dec.{eqb, leb}
 use lib.ListN.{length, take}
 use Rattle.rules.specs.Basic.{if_then_else_, all}
 use Rattle.rules.specs.Board.{printer, recordLength, topPriority, mostTicks}
-use Rattle.rules.specs.State.{State, at, waiting, sending}
-use Rattle.rules.specs.Lines.{Line, ready, waiters, senders}
-use Rattle.rules.specs.Test.{isDone, isNoneYet, freeOk, counterOk, objectOk, usedOk, threadOk, notAbove, kernelOk}
+use Rattle.rules.specs.State.{State, at, semAt, waiting, sending}
+use Rattle.rules.specs.Lines.{ready, waiters, senders}
+use Rattle.rules.specs.Test.{isDone, isNoneYet, freeOk, counterOk, objectOk, usedOk, threadOk, semOk, notAbove}
 use Rattle.rules.specs.declared.Thread.{Thread}
 use Rattle.rules.specs.declared.Wait.{Wait}
 use Rattle.rules.specs.declared.Wait.the-variants.{Nothing, Delay, Receive, Send, Semaphore}
 use Rattle.rules.specs.declared.Outcome.{Outcome}
-use Rattle.layout.specs.Canon.{threadCanon}
+use Rattle.layout.specs.Bytes.{semsFrom}
+use Rattle.layout.specs.Canon.{threadCanon, semCanon}
 use Rattle.layout.specs.Held.{Whole}
-use Rattle.places.specs.Taken.{Taken, noGap, isFree}
+use Rattle.places.specs.Taken.{Taken, noGap, unshared}
+
+-- an answer that says whether something holds, of a table that holds the state that it says
+pub record Decides (r : Bool) (t : List ℕ) (P : Type 0) : Type 0 where
+  pub passed : r ≡ true → P
+  pub passes : Whole printer t → P → r ≡ true
 
 -- A THREAD IN USE
 
@@ -31,70 +37,55 @@ usedTest s i t =
     && counterOk (t .wait) (t .suspended) (t .place) (t .turn) && objectOk s i (t .wait) (t .full) && outcomeOk (t .wait) (t .outcome) (t .parcel)
 
 -- the wait object is one of the table's
-abbrev pub Within : Wait → Type 0
-Within (Nothing n) = Unit {0}
-Within (Delay n) = Unit {0}
-Within (Receive n) = Unit {0}
-Within (Send to n) = to < printer .threads
-Within (Semaphore on n) = on < printer .sems
+abbrev pub InTable : Wait → Type 0
+InTable (Nothing n) = Unit {0}
+InTable (Delay n) = Unit {0}
+InTable (Receive n) = Unit {0}
+InTable (Send to n) = to < printer .threads
+InTable (Semaphore on n) = on < printer .sems
 
--- PLACES
+-- PLACES: a word for each ready line, each semaphore's line and each line of senders
 
--- a word for each line
-pub record Lengths (readies pends sends : List ℕ) : Type 0 where
-  pub inReady : length readies ≡ suc topPriority
-  pub inWaiters : length pends ≡ printer .sems
-  pub inSenders : length sends ≡ printer .threads
+pub record Lengths (readyWords waiterWords senderWords : List ℕ) : Type 0 where
+  pub inReady : length readyWords ≡ suc topPriority
+  pub inWaiters : length waiterWords ≡ printer .sems
+  pub inSenders : length senderWords ≡ printer .threads
 
--- the words of each kind of line say which places these threads have taken
-pub record Seats (readies pends sends : List ℕ) (ts : List Thread) : Type 0 where
-  pub inReady : Taken ready readies ts
-  pub inWaiters : Taken waiters pends ts
-  pub inSenders : Taken senders sends ts
+-- the words say which places these threads have taken
+pub record AllTaken (readyWords waiterWords senderWords : List ℕ) (ts : List Thread) : Type 0 where
+  pub inReady : Taken ready readyWords ts
+  pub inWaiters : Taken waiters waiterWords ts
+  pub inSenders : Taken senders senderWords ts
 
 -- thread i takes its place, if none of the threads before it has it
-pub record Seated (r : Bool) (readies pends sends : List ℕ) (ts : List Thread) (i : ℕ) : Type 0 where
-  pub answer : r ≡ isFree (take i ts) (at ts i)
-  pub seats : r ≡ true → Seats readies pends sends (take (i + 1) ts)
+pub record TakesPlace (r : Bool) (readyWords waiterWords senderWords : List ℕ) (ts : List Thread) (i : ℕ) : Type 0 where
+  pub answer : r ≡ unshared (take i ts) (at ts i)
+  pub taken : r ≡ true → AllTaken readyWords waiterWords senderWords (take (i + 1) ts)
 
 -- in every line the place before one that is taken is taken too
-pub record NoGaps (readies pends sends : List ℕ) : Type 0 where
-  pub inReady : all noGap readies ≡ true
-  pub inWaiters : all noGap pends ≡ true
-  pub inSenders : all noGap sends ≡ true
+pub record NoGaps (readyWords waiterWords senderWords : List ℕ) : Type 0 where
+  pub inReady : all noGap readyWords ≡ true
+  pub inWaiters : all noGap waiterWords ≡ true
+  pub inSenders : all noGap senderWords ≡ true
 
--- THREADS
+-- RECORDS
 
--- thread i passes, after the threads before it: no ready thread's priority is above the limit
-pub record Passed (t : List ℕ) (s : State) (limit i : ℕ) : Type 0 where
+-- thread i, after the threads before it
+pub record Passes (t : List ℕ) (s : State) (limit i : ℕ) : Type 0 where
   pub canon : threadCanon t (i * recordLength) ≡ true
   pub own : (if at (s .threads) i .used then usedOk s i (at (s .threads) i) else freeOk (at (s .threads) i)) ≡ true
   pub rank : notAbove limit (at (s .threads) i) ≡ true
-  pub place : isFree (take i (s .threads)) (at (s .threads) i) ≡ true
+  pub place : unshared (take i (s .threads)) (at (s .threads) i) ≡ true
 
-pub record ThreadTested (r : Bool) (t : List ℕ) (s : State) (limit i : ℕ) (readies pends sends : List ℕ) : Type 0 where
-  pub passed : r ≡ true → Passed t s limit i
-  pub passes : Whole printer t → Passed t s limit i → r ≡ true
-  pub seats : r ≡ true → Seats readies pends sends (take (i + 1) (s .threads))
-
--- all threads are sound, and no ready thread's priority is above the limit
-pub record Threads (t : List ℕ) (s : State) (limit : ℕ) : Type 0 where
+-- every thread
+pub record Threads (t : List ℕ) (s : State) : Type 0 where
   pub canon : (i : ℕ) → i < printer .threads → threadCanon t (i * recordLength) ≡ true
   pub each : (i : ℕ) → i < printer .threads → threadOk s i ≡ true
-  pub rank : (i : ℕ) → i < printer .threads → notAbove limit (at (s .threads) i) ≡ true
 
-pub record ThreadsTested (r : Bool) (t : List ℕ) (s : State) (limit : ℕ) : Type 0 where
-  pub passed : r ≡ true → Threads t s limit
-  pub passes : Whole printer t → Threads t s limit → r ≡ true
+-- no ready thread's priority is above the limit
+abbrev pub NoneAbove : ℕ → State → Type 0
+NoneAbove limit s = (i : ℕ) → i < printer .threads → notAbove limit (at (s .threads) i) ≡ true
 
--- THE TABLE
-
--- all threads are sound, and so is who runs
-pub record Runs (t : List ℕ) (s : State) : Type 0 where
-  pub canon : (i : ℕ) → i < printer .threads → threadCanon t (i * recordLength) ≡ true
-  pub each : (i : ℕ) → i < printer .threads → threadOk s i ≡ true
-  pub kernel : kernelOk s ≡ true
-
-pub record RunsTested (r : Bool) (t : List ℕ) (s : State) : Type 0 where
-  pub passed : r ≡ true → Runs t s
-  pub passes : Whole printer t → Runs t s → r ≡ true
+-- semaphore k
+unfoldable pub semTest : List ℕ → State → ℕ → Bool
+semTest t s k = semCanon t (semsFrom printer + k * recordLength) && semOk (semAt (s .sems) k)

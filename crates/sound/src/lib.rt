@@ -3,20 +3,17 @@ ghost use mathlib.Core.Path.{_≡_};
 ghost use mathlib.Core.Bool.{true, not, _&&_, _||_};
 ghost use mathlib.Core.List.{List};
 ghost use mathlib.Core.Logic.{_↔_};
-ghost use Prim.Native.Nat.{ℕ, _+_, _*_, _≤_, _<_};
+ghost use Prim.Native.Nat.{ℕ, _+_, _≤_, _<_};
 ghost use lib.Dec.{eqb, leb};
 ghost use lib.ListN.{length, take};
-ghost use Rattle.rules.specs.Basic.{if_then_else_};
-ghost use Rattle.rules.specs.Board.{printer, recordLength, tableLength, topPriority, mostTicks};
+ghost use Rattle.rules.specs.Basic.{if_then_else_, allBelow};
+ghost use Rattle.rules.specs.Board.{printer, tableLength, topPriority, mostTicks};
 ghost use Rattle.rules.specs.State.{State, at, semAt, sending};
 ghost use Rattle.rules.specs.Lines.{line, waitLine};
 ghost use Rattle.rules.specs.Table.{decode};
-ghost use Rattle.rules.specs.Test.{isDone, isNoneYet, counterOk, objectOk, usedOk, semOk, initOk, notAbove, soundTable};
+ghost use Rattle.rules.specs.Test.{isDone, isNoneYet, counterOk, objectOk, usedOk, initOk, notAbove, kernelOk, soundTable};
 ghost use Rattle.rules.specs.declared.Thread.{Thread};
-ghost use Rattle.layout.specs.Bytes.{semsFrom};
-ghost use Rattle.layout.specs.Canon.{semCanon};
-ghost use Rattle.places.specs.Taken.{isFree};
-ghost use Rattle.sound.specs.Tested.{outcomeOk, Lengths, Seats, Seated, Within, ThreadTested, NoGaps, ThreadsTested, RunsTested};
+ghost use Rattle.sound.specs.Tested.{Decides, outcomeOk, InTable, Lengths, AllTaken, TakesPlace, NoGaps, Passes, Threads, NoneAbove, semTest};
 use rules::Outcome;
 use rules::Thread;
 use rules::Wait;
@@ -206,10 +203,10 @@ fn take_place(
     priority: u8,
     place: u8,
 ) -> bool
-    requires { ⌜ (priority ≤ topPriority) × Within w ⌝ }
+    requires { ⌜ (priority ≤ topPriority) × InTable w ⌝ }
     ensures { λ r. ⌜ ((ts : List Thread) (i : ℕ) → i < length ts → line (at ts i) ≡ waitLine w suspended priority → at ts i .place ≡ place
-        → Seats (now (ready .entry)) (now (waiters .entry)) (now (senders .entry)) (take i ts)
-        → Seated r (now (ready .exit)) (now (waiters .exit)) (now (senders .exit)) ts i) ⌝ }
+        → AllTaken (now (ready .entry)) (now (waiters .entry)) (now (senders .entry)) (take i ts)
+        → TakesPlace r (now (ready .exit)) (now (waiters .exit)) (now (senders .exit)) ts i) ⌝ }
 {
     match w {
         Wait::Nothing { counter: _ } => {
@@ -248,8 +245,9 @@ fn thread_ok(
 ) -> bool
     requires { ⌜ (i < printer .threads) × (length (now t) ≡ tableLength printer) ⌝ }
     ensures { λ r. ⌜ ((s : State) → decode printer (now (t .entry)) ≡ s
-        → Seats (now (ready .entry)) (now (waiters .entry)) (now (senders .entry)) (take i (s .threads))
-        → ThreadTested r (now (t .entry)) s limit i (now (ready .exit)) (now (waiters .exit)) (now (senders .exit))) ⌝ }
+        → AllTaken (now (ready .entry)) (now (waiters .entry)) (now (senders .entry)) (take i (s .threads))
+        → Decides r (now (t .entry)) (Passes (now (t .entry)) s limit i)
+        × (r ≡ true → AllTaken (now (ready .exit)) (now (waiters .exit)) (now (senders .exit)) (take (i + 1) (s .threads)))) ⌝ }
 {
     let th = records::load_thread(t, i);
     let w = th.wait;
@@ -295,7 +293,7 @@ fn no_gaps(ready: &[u16; 32], waiters: &[u16; 8], senders: &[u16; 16]) -> bool
 // Are all threads sound, and is no ready thread's priority above `limit`?
 fn threads_ok(t: &[u8], limit: u8) -> bool
     requires { ⌜ length (now t) ≡ tableLength printer ⌝ }
-    ensures { λ r. ⌜ ((s : State) → decode printer (now (t .entry)) ≡ s → ThreadsTested r (now (t .entry)) s limit) ⌝ }
+    ensures { λ r. ⌜ ((s : State) → decode printer (now (t .entry)) ≡ s → Decides r (now (t .entry)) (Threads (now (t .entry)) s × NoneAbove limit s)) ⌝ }
 {
     let mut ready = [0u16; 32];
     let mut waiters = [0u16; 8];
@@ -312,7 +310,7 @@ fn threads_ok(t: &[u8], limit: u8) -> bool
 
 fn sem_ok(t: &[u8], k: usize) -> bool
     requires { ⌜ (k < printer .sems) × (length (now t) ≡ tableLength printer) ⌝ }
-    ensures { λ r. ⌜ ((s : State) → decode printer (now (t .entry)) ≡ s → r ≡ (semCanon (now (t .entry)) (semsFrom printer + k * recordLength) && semOk (semAt (s .sems) k))) ⌝ }
+    ensures { λ r. ⌜ ((s : State) → decode printer (now (t .entry)) ≡ s → r ≡ semTest (now (t .entry)) s k) ⌝ }
 {
     if !canon::sem_canon(t, k) {
         return false;
@@ -326,7 +324,7 @@ fn sem_ok(t: &[u8], k: usize) -> bool
 
 fn sems_ok(t: &[u8]) -> bool
     requires { ⌜ length (now t) ≡ tableLength printer ⌝ }
-    ensures { λ r. ⌜ ((s : State) → decode printer (now (t .entry)) ≡ s → (r ≡ true) ↔ ((k : ℕ) → k < printer .sems → semCanon (now (t .entry)) (semsFrom printer + k * recordLength) && semOk (semAt (s .sems) k) ≡ true)) ⌝ }
+    ensures { λ r. ⌜ ((s : State) → decode printer (now (t .entry)) ≡ s → r ≡ allBelow (printer .sems) (semTest (now (t .entry)) s)) ⌝ }
 {
     for k in 0..SEMAPHORES {
         if !sem_ok(t, k) {
@@ -350,7 +348,7 @@ fn init_ok(t: &[u8]) -> bool
 // Are all threads sound, and the one that runs?
 fn runs_ok(t: &[u8]) -> bool
     requires { ⌜ length (now t) ≡ tableLength printer ⌝ }
-    ensures { λ r. ⌜ ((s : State) → decode printer (now (t .entry)) ≡ s → RunsTested r (now (t .entry)) s) ⌝ }
+    ensures { λ r. ⌜ ((s : State) → decode printer (now (t .entry)) ≡ s → Decides r (now (t .entry)) (Threads (now (t .entry)) s × (kernelOk s ≡ true))) ⌝ }
 {
     let i = records::running(t);
     if i >= THREADS {

@@ -1,43 +1,33 @@
+-- `canon::head_canon` meets its contract: each test that fails decides, and else the last one does. Assumes nothing.
 use mathlib.Core.Path.{sym, _∙_}
 use borrow.Author.Tests.{le-leb, lt-leb, not-true, not-false}
-use Rattle.layout.specs.Canon.{headCanon}
 use borrow.Author.Needs.{needs}
+use Rattle.layout.specs.Canon.{headCanon}
 use Rattle.canon.proofs.head_canon.Statement.{statement}
 use Rattle.canon.proofs.head_canon.Tie as tie
-use Rattle.canon.proofs.head_canon.Reads as reads
-use Rattle.canon.proofs.head_canon.Lts as lts
-use Rattle.canon.proofs.outcome_canon.Reads as outcome-canon-reads
-use Rattle.canon.proofs.wait_canon.Reads as wait-canon-reads
 
--- src/lib.rt:65:9
 returns : tie.Need-returns
 unfolding headCanon
 returns c = rw (lt-leb _ _ (c .if1 .taken))
 
--- src/lib.rt:68:9
 returns-2 : tie.Need-returns-2
 unfolding headCanon
 returns-2 c = rw (le-leb _ _ (c .before .if1 .left), lt-leb _ _ (c .if2 .taken))
 
--- src/lib.rt:71:9
 returns-3 : tie.Need-returns-3
 unfolding headCanon
 returns-3 c = rw (le-leb _ _ (c .before .before .if1 .left), le-leb _ _ (c .before .if2 .left), lt-leb _ _ (c .if3 .taken))
 
--- src/lib.rt:73:9
 wait-canon-requires : tie.Need-wait-canon-requires
 wait-canon-requires c κs = search needs
 
--- src/lib.rt:74:9
 returns-4 : tie.Need-returns-4
 unfolding headCanon
 returns-4 c = rw (le-leb _ _ (c .before .before .before .before .if1 .left), le-leb _ _ (c .before .before .before .if2 .left), le-leb _ _ (c .before .before .if3 .left), sym (c .before .wait-canon .ensures) ∙ not-true _ (c .if4 .taken))
 
--- src/lib.rt:76:5
 outcome-canon-requires : tie.Need-outcome-canon-requires
 outcome-canon-requires c κs = search needs
 
--- src/lib.rt:61:1
 returns-5 : tie.Need-returns-5
 unfolding headCanon
 returns-5 c = rw (le-leb _ _ (c .before .before .before .before .before .if1 .left), le-leb _ _ (c .before .before .before .before .if2 .left), le-leb _ _ (c .before .before .before .if3 .left), sym (c .before .before .wait-canon .ensures) ∙ not-false _ (c .before .if4 .left)) (c .outcome-canon .ensures)

@@ -1,64 +1,48 @@
-use Rattle.layout.specs.Canon.{threadCanon}
+-- `canon::thread_canon` meets its contract: the bytes that are read are those that the rule asks for. Assumes nothing.
 use borrow.Author.Needs.{needs}
+use Rattle.layout.specs.Canon.{threadCanon}
 use Rattle.canon.proofs.thread_canon.Statement.{statement}
 use Rattle.canon.proofs.thread_canon.Tie as tie
-use Rattle.canon.proofs.thread_canon.Reads as reads
-use Rattle.canon.proofs.thread_canon.Lts as lts
-use Rattle.canon.proofs.head_canon.Reads as head-canon-reads
 
--- src/lib.rt:84:16
 mul-base : tie.Need-mul-base
 mul-base c = search needs
 
--- src/lib.rt:85:16
 shared-slice-read-head-canon : tie.Need-shared-slice-read-head-canon
 shared-slice-read-head-canon c = search needs
 
--- src/lib.rt:85:27
 add-head-canon : tie.Need-add-head-canon
 add-head-canon c = search needs
 
--- src/lib.rt:85:25
 shared-slice-read-head-canon-2 : tie.Need-shared-slice-read-head-canon-2
 shared-slice-read-head-canon-2 c = search needs
 
--- src/lib.rt:85:40
 add-head-canon-2 : tie.Need-add-head-canon-2
 add-head-canon-2 c = search needs
 
--- src/lib.rt:85:38
 shared-slice-read-head-canon-3 : tie.Need-shared-slice-read-head-canon-3
 shared-slice-read-head-canon-3 c = search needs
 
--- src/lib.rt:85:53
 add-head-canon-3 : tie.Need-add-head-canon-3
 add-head-canon-3 c = search needs
 
--- src/lib.rt:85:51
 shared-slice-read-head-canon-4 : tie.Need-shared-slice-read-head-canon-4
 shared-slice-read-head-canon-4 c = search needs
 
--- src/lib.rt:85:66
 add-head-canon-4 : tie.Need-add-head-canon-4
 add-head-canon-4 c = search needs
 
--- src/lib.rt:85:64
 shared-slice-read-head-canon-5 : tie.Need-shared-slice-read-head-canon-5
 shared-slice-read-head-canon-5 c = search needs
 
--- src/lib.rt:85:79
 add-head-canon-5 : tie.Need-add-head-canon-5
 add-head-canon-5 c = search needs
 
--- src/lib.rt:85:77
 shared-slice-read-head-canon-6 : tie.Need-shared-slice-read-head-canon-6
 shared-slice-read-head-canon-6 c = search needs
 
--- src/lib.rt:85:5
 head-canon-requires : tie.Need-head-canon-requires
 head-canon-requires c κs = search needs
 
--- src/lib.rt:80:1
 returns : tie.Need-returns
 unfolding threadCanon
 returns c = c .head-canon .ensures

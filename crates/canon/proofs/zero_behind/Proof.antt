@@ -1,3 +1,4 @@
+-- `canon::zero_behind` meets its contract: what is gathered is 0 exactly when the number and every word so far are. Assumes nothing.
 use mathlib.Core.Path.{_≡_, sym, _∙_}
 use mathlib.Core.Logic.{_↔_}
 use Prim.Native.Nat.{ℕ, _+_, _*_, _-_, _≤_, _<_}
@@ -9,9 +10,6 @@ use Rattle.laws.proofs.Bitwise.{or-none}
 use Rattle.canon.proofs.Zeros.{words-behind}
 use Rattle.canon.proofs.zero_behind.Statement.{statement}
 use Rattle.canon.proofs.zero_behind.Tie as tie
-use Rattle.canon.proofs.zero_behind.Reads as reads
-use Rattle.canon.proofs.zero_behind.Lts as lts
-use Rattle.words.proofs.word_at.Reads as word-at-reads
 
 abbrev Inv-loop : tie.InvT-loop
 Inv-loop t base first all₀ q₀ all q = (1 ≤ q) × (q ≤ 6) × ((all ≡ 0) ↔ ((first ≡ 0) × ((k : ℕ) → k < q → 1 ≤ k → wordAt t (base + k * 4) ≡ 0)))
@@ -19,31 +17,24 @@ Inv-loop t base first all₀ q₀ all q = (1 ≤ q) × (q ≤ 6) × ((all ≡ 0)
 abbrev μ-loop : tie.MeasureT-loop
 μ-loop t base first all₀ q₀ all q = 6 - q
 
--- src/lib.rt:24:5
 loop-holds : tie.Need-loop-holds Inv-loop μ-loop
 loop-holds c = (omega arith, omega arith, (λ e. (e, λ k h l. absurd (omega arith)), λ h. h .0))
 
--- src/lib.rt:25:41
 mul-word-at : tie.Need-mul-word-at Inv-loop μ-loop
 mul-word-at c = omega arith
 
--- src/lib.rt:25:34
 add-word-at : tie.Need-add-word-at Inv-loop μ-loop
 add-word-at c = omega arith
 
--- src/lib.rt:25:16
 word-at-requires : tie.Need-word-at-requires Inv-loop μ-loop
 word-at-requires c κs = omega arith
 
--- src/lib.rt:24:9
 add-q : tie.Need-add-q Inv-loop μ-loop
 add-q c = omega arith
 
--- src/lib.rt:24:5
 loop-less : tie.Need-loop-less Inv-loop μ-loop
 loop-less c = omega arith
 
--- src/lib.rt:24:5
 loop-again : tie.Need-loop-again Inv-loop μ-loop
 loop-again c = (
   omega arith,
@@ -54,7 +45,6 @@ loop-again c = (
   ),
 )
 
--- src/lib.rt:19:1
 returns : tie.Need-returns Inv-loop μ-loop
 returns c =
     let z = words-behind (c .before .before .before .args .t .now) (c .before .before .before .args .base) in (

@@ -1,18 +1,15 @@
-use lib.Bits.{bitOr}
+-- `places::gap` meets its contract: a word takes in its own half exactly when both together are no more than the word. Assumes nothing.
+use Prim.Native.Nat.{_/_}
 use native.Mathlib.Omega.{arith}
 use borrow.Author.Tests.{le-leb, leb-true}
-use Prim.Native.Nat.{_/_}
+use lib.Bits.{bitOr}
 use Rattle.laws.proofs.Bitwise.{or-above}
 use Rattle.places.proofs.gap.Statement.{statement}
 use Rattle.places.proofs.gap.Tie as tie
-use Rattle.places.proofs.gap.Reads as reads
-use Rattle.places.proofs.gap.Lts as lts
 
--- src/lib.rt:53:5
 sub-result : tie.Need-sub-result
 sub-result c = or-above (c .args .word / 2) (c .args .word)
 
--- src/lib.rt:50:1
 returns : tie.Need-returns
 returns c = (λ e. le-leb (bitOr (c .args .word / 2) (c .args .word)) (c .args .word) (omega (arith, e)), λ h. omega (arith, leb-true (bitOr (c .args .word / 2) (c .args .word)) (c .args .word) h))
 

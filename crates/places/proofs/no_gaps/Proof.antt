@@ -1,22 +1,20 @@
+-- `places::no_gaps` meets its contract: what is gathered is 0 exactly when no word so far has a gap. Assumes nothing.
 use mathlib.Core.Bool.{true}
 use mathlib.Core.Path.{_≡_, refl}
-use borrow.Author.Tests.{eqb-true, eq-eqb}
-use borrow.Author.Count.{below-more}
-use Rattle.laws.proofs.Split.{pass-together}
-use Rattle.laws.proofs.Bitwise.{or-none}
-use Rattle.laws.proofs.Counts.{all-at}
-use Rattle.places.proofs.Taking.{all-below}
 use mathlib.Core.Logic.{_↔_}
 use Prim.Native.Nat.{ℕ, _-_, _≤_, _<_}
 use native.Mathlib.Omega.{arith}
+use borrow.Author.Tests.{eqb-true, eq-eqb}
+use borrow.Author.Count.{below-more}
 use borrow.Author.Needs.{needs}
 use lib.ListN.{length, getD}
+use Rattle.laws.proofs.Split.{pass-together}
+use Rattle.laws.proofs.Bitwise.{or-none}
+use Rattle.laws.proofs.Counts.{all-at}
 use Rattle.places.specs.Taken.{noGap}
+use Rattle.places.proofs.Taking.{all-below}
 use Rattle.places.proofs.no_gaps.Statement.{statement}
 use Rattle.places.proofs.no_gaps.Tie as tie
-use Rattle.places.proofs.no_gaps.Reads as reads
-use Rattle.places.proofs.no_gaps.Lts as lts
-use Rattle.places.proofs.gap.Reads as gap-reads
 
 abbrev Inv-loop : tie.InvT-loop
 Inv-loop words gaps₀ n₀ n-end gaps n = (n ≤ length words) × ((gaps ≡ 0) ↔ ((k : ℕ) → k < n → noGap (getD words k 0) ≡ true))
@@ -24,35 +22,27 @@ Inv-loop words gaps₀ n₀ n-end gaps n = (n ≤ length words) × ((gaps ≡ 0)
 abbrev μ-loop : tie.MeasureT-loop
 μ-loop words gaps₀ n₀ n-end gaps n = length words - n
 
--- src/lib.rt:61:5
 loop-holds : tie.Need-loop-holds Inv-loop μ-loop
 loop-holds c = (omega arith, (λ e k h. absurd (omega arith), λ h. refl))
 
--- src/lib.rt:62:21
 mul-gap : tie.Need-mul-gap Inv-loop μ-loop
 mul-gap c = search needs
 
--- src/lib.rt:62:21
 shared-slice-read-gap : tie.Need-shared-slice-read-gap Inv-loop μ-loop
 shared-slice-read-gap c = omega arith
 
--- src/lib.rt:62:17
 gap-requires : tie.Need-gap-requires Inv-loop μ-loop
 gap-requires c κs = search needs
 
--- src/lib.rt:61:9
 add-n : tie.Need-add-n Inv-loop μ-loop
 add-n c = omega arith
 
--- src/lib.rt:61:5
 loop-less : tie.Need-loop-less Inv-loop μ-loop
 loop-less c = omega arith
 
--- src/lib.rt:61:5
 loop-again : tie.Need-loop-again Inv-loop μ-loop
 loop-again c = (omega arith, (λ e. let z = or-none _ _ .0 e in below-more _ _ (c .before .before .before .loop .inv .1 .0 (z .0)) (c .gap .ensures .0 (z .1)), λ h. or-none _ _ .1 (c .before .before .before .loop .inv .1 .1 (λ k q. h k (omega arith)), c .gap .ensures .1 (h _ (omega arith)))))
 
--- src/lib.rt:57:1
 returns : tie.Need-returns Inv-loop μ-loop
 returns c = pass-together _ _ (
   λ e. all-below noGap (c .before .before .before .args .words .now) (λ k h. c .before .loop .inv .1 .0 (eqb-true _ 0 e) k (omega arith)),

@@ -1,60 +1,44 @@
+-- `sound::counter_ok` meets its contract: an arm for each kind of wait, as the rule has it. Assumes nothing.
 use borrow.Author.Needs.{needs}
 use Rattle.sound.proofs.counter_ok.Statement.{statement}
 use Rattle.sound.proofs.counter_ok.Tie as tie
-use Rattle.sound.proofs.counter_ok.Reads as reads
-use Rattle.sound.proofs.counter_ok.Lts as lts
-use Rattle.sound.proofs.ticks_ok.Reads as ticks-ok-reads
-use Rattle.sound.proofs.turn_ok.Reads as turn-ok-reads
 
--- src/lib.rt:55:25
 enum-known-w : tie.Need-enum-known-w
 enum-known-w c = search needs
 
--- src/lib.rt:59:17
 turn-ok-requires : tie.Need-turn-ok-requires
 turn-ok-requires c κs = search needs
 
--- src/lib.rt:62:23
 enum-known-w-2 : tie.Need-enum-known-w-2
 enum-known-w-2 c = search needs
 
--- src/lib.rt:62:36
 ticks-ok-requires : tie.Need-ticks-ok-requires
 ticks-ok-requires c κs = search needs
 
--- src/lib.rt:63:25
 enum-known-w-3 : tie.Need-enum-known-w-3
 enum-known-w-3 c = search needs
 
--- src/lib.rt:64:29
 enum-known-w-4 : tie.Need-enum-known-w-4
 enum-known-w-4 c = search needs
 
--- src/lib.rt:65:34
 enum-known-w-5 : tie.Need-enum-known-w-5
 enum-known-w-5 c = search needs
 
--- src/lib.rt:51:1
 returns : tie.Need-returns
 returns c = rw (c .before .before .w .given .1, c .if1 .taken)
 
--- src/lib.rt:51:1
 returns-2 : tie.Need-returns-2
 returns-2 c = rw (c .before .before .before .w .given .1, c .before .if1 .left) (c .turn-ok .ensures)
 
--- src/lib.rt:51:1
 returns-3 : tie.Need-returns-3
 returns-3 c = rw (c .before .before .w2 .given .1) (c .ticks-ok .ensures)
 
--- src/lib.rt:51:1
 returns-4 : tie.Need-returns-4
 returns-4 c = rw (c .before .w3 .given .1)
 
--- src/lib.rt:51:1
 returns-5 : tie.Need-returns-5
 returns-5 c = rw (c .before .w4 .given .1)
 
--- src/lib.rt:51:1
 returns-6 : tie.Need-returns-6
 returns-6 c = rw (c .before .w5 .given .1)
 

@@ -1,28 +1,21 @@
+-- `sound::init_ok` meets its contract: each test that fails decides, and else the last one does. Assumes nothing.
 use mathlib.Core.Path.{sym, _∙_}
 use borrow.Author.Tests.{not-true, not-false}
-use Rattle.rules.specs.Test.{initOk}
 use borrow.Author.Needs.{needs}
+use Rattle.rules.specs.Test.{initOk}
 use Rattle.sound.proofs.init_ok.Statement.{statement}
 use Rattle.sound.proofs.init_ok.Tie as tie
-use Rattle.sound.proofs.init_ok.Reads as reads
-use Rattle.sound.proofs.init_ok.Lts as lts
-use Rattle.lines.proofs.is_ready.Reads as is-ready-reads
-use Rattle.records.proofs.load_thread.Reads as load-thread-reads
 
--- src/lib.rt:321:9
 load-thread-requires : tie.Need-load-thread-requires
 load-thread-requires c κs = search needs
 
--- src/lib.rt:322:9
 is-ready-requires : tie.Need-is-ready-requires
 is-ready-requires c κs = search needs
 
--- src/lib.rt:323:9
 returns : tie.Need-returns
 unfolding initOk
 returns c s e = rw (← c .before .before .load-thread .ensures s e, sym (c .before .is-ready .ensures) ∙ not-true _ (c .if1 .taken))
 
--- src/lib.rt:317:1
 returns-2 : tie.Need-returns-2
 unfolding initOk
 returns-2 c s e = rw (← c .before .before .before .load-thread .ensures s e, sym (c .before .before .is-ready .ensures) ∙ not-false _ (c .before .if1 .left))

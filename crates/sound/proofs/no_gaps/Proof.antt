@@ -1,34 +1,26 @@
+-- `sound::no_gaps` meets its contract: each kind of line that has a gap decides, and else the last one does. Assumes nothing.
 use mathlib.Core.Path.{refl, sym, _∙_}
 use borrow.Author.Tests.{not-true, not-false}
-use Rattle.laws.proofs.Split.{clash}
 use borrow.Author.Needs.{needs}
+use Rattle.laws.proofs.Split.{clash}
 use Rattle.sound.proofs.no_gaps.Statement.{statement}
 use Rattle.sound.proofs.no_gaps.Tie as tie
-use Rattle.sound.proofs.no_gaps.Reads as reads
-use Rattle.sound.proofs.no_gaps.Lts as lts
-use Rattle.places.proofs.no_gaps.Reads as no-gaps-reads
 
--- src/lib.rt:257:9
 no-gaps-requires : tie.Need-no-gaps-requires
 no-gaps-requires c κs = search needs
 
--- src/lib.rt:258:9
 returns : tie.Need-returns
 returns c = (λ e. absurd (clash e refl), (λ e. absurd (clash e refl), λ h. absurd (clash (h .inReady) (sym (c .before .no-gaps .ensures) ∙ not-true _ (c .if1 .taken)))))
 
--- src/lib.rt:260:9
 no-gaps-requires-2 : tie.Need-no-gaps-requires-2
 no-gaps-requires-2 c κs = search needs
 
--- src/lib.rt:261:9
 returns-2 : tie.Need-returns-2
 returns-2 c = (λ e. absurd (clash e refl), (λ e. absurd (clash e refl), λ h. absurd (clash (h .inWaiters) (sym (c .before .no-gaps2 .ensures) ∙ not-true _ (c .if2 .taken)))))
 
--- src/lib.rt:263:5
 no-gaps-requires-3 : tie.Need-no-gaps-requires-3
 no-gaps-requires-3 c κs = search needs
 
--- src/lib.rt:254:1
 returns-3 : tie.Need-returns-3
 returns-3 c = (
   λ e. record { inReady = search needs; inWaiters = search needs; inSenders = search needs },

@@ -1,64 +1,47 @@
+-- `sound::object_ok` meets its contract: an arm for each kind of wait, as the rule has it. Assumes nothing.
 use borrow.Author.Needs.{needs}
 use Rattle.sound.proofs.object_ok.Statement.{statement}
 use Rattle.sound.proofs.object_ok.Tie as tie
-use Rattle.sound.proofs.object_ok.Reads as reads
-use Rattle.sound.proofs.object_ok.Lts as lts
-use Rattle.sound.proofs.pend_ok.Reads as pend-ok-reads
-use Rattle.sound.proofs.send_ok.Reads as send-ok-reads
 
--- src/lib.rt:144:41
 enum-told : tie.Need-enum-told
 enum-told c = search needs
 
--- src/lib.rt:145:39
 enum-told-2 : tie.Need-enum-told-2
 enum-told-2 c = search needs
 
--- src/lib.rt:146:41
 enum-told-3 : tie.Need-enum-told-3
 enum-told-3 c = search needs
 
--- src/lib.rt:147:22
 enum-known-w : tie.Need-enum-known-w
 enum-known-w c = search needs
 
--- src/lib.rt:147:56
 cast-send-ok : tie.Need-cast-send-ok
 cast-send-ok c = search needs
 
--- src/lib.rt:147:42
 send-ok-requires : tie.Need-send-ok-requires
 send-ok-requires c κs = search needs
 
--- src/lib.rt:148:27
 enum-known-w-2 : tie.Need-enum-known-w-2
 enum-known-w-2 c = search needs
 
--- src/lib.rt:148:58
 cast-pend-ok : tie.Need-cast-pend-ok
 cast-pend-ok c = search needs
 
--- src/lib.rt:148:47
 pend-ok-requires : tie.Need-pend-ok-requires
 pend-ok-requires c κs = search needs
 
--- src/lib.rt:139:1
 returns : tie.Need-returns
 returns c s e = rw (c .enum-told .given .1)
 
--- src/lib.rt:139:1
 returns-2 : tie.Need-returns-2
 returns-2 c s e = rw (c .enum-told2 .given .1)
 
--- src/lib.rt:139:1
 returns-3 : tie.Need-returns-3
 returns-3 c s e = rw (c .enum-told3 .given .1)
 
--- src/lib.rt:139:1
 returns-4 : tie.Need-returns-4
 returns-4 c s e = rw (c .before .before .w .given .1) (c .send-ok .ensures s e)
 
--- src/lib.rt:139:1
 returns-5 : tie.Need-returns-5
 returns-5 c s e = rw (c .before .before .w2 .given .1) (c .pend-ok .ensures s e)
 

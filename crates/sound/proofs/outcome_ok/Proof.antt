@@ -1,54 +1,40 @@
+-- `sound::outcome_ok` meets its contract: who does not wait does not send, and an outcome that is none yet is not done, so a test is left out on each way. Assumes nothing.
 use mathlib.Core.Path.{sym, _∙_}
 use borrow.Author.Tests.{not-true, not-false}
-use Rattle.sound.specs.Tested.{outcomeOk}
-use Rattle.sound.proofs.Used.{idle-sends, none-done}
 use borrow.Author.Needs.{needs}
+use Rattle.sound.specs.Tested.{outcomeOk}
+use Rattle.sound.proofs.Used.{idle-senderWords, none-done}
 use Rattle.sound.proofs.outcome_ok.Statement.{statement}
 use Rattle.sound.proofs.outcome_ok.Tie as tie
-use Rattle.sound.proofs.outcome_ok.Reads as reads
-use Rattle.sound.proofs.outcome_ok.Lts as lts
-use Rattle.lines.proofs.is_waiting.Reads as is-waiting-reads
-use Rattle.sound.proofs.is_done.Reads as is-done-reads
-use Rattle.sound.proofs.is_none_yet.Reads as is-none-yet-reads
-use Rattle.sound.proofs.is_sending.Reads as is-sending-reads
 
--- src/lib.rt:117:9
 is-waiting-requires : tie.Need-is-waiting-requires
 is-waiting-requires c κs = search needs
 
--- src/lib.rt:118:16
 is-done-requires : tie.Need-is-done-requires
 is-done-requires c κs = search needs
 
--- src/lib.rt:118:9
 returns : tie.Need-returns
 unfolding outcomeOk
-returns c = c .if2 .taken ∙ rw (sym (c .before .before .before .is-waiting .ensures) ∙ not-true _ (c .before .before .if1 .taken), idle-sends (c .before .before .before .before .args .w) (sym (c .before .before .before .is-waiting .ensures) ∙ not-true _ (c .before .before .if1 .taken)), sym (c .before .is-done .ensures) ∙ c .if2 .taken)
+returns c = c .if2 .taken ∙ rw (sym (c .before .before .before .is-waiting .ensures) ∙ not-true _ (c .before .before .if1 .taken), idle-senderWords (c .before .before .before .before .args .w) (sym (c .before .before .before .is-waiting .ensures) ∙ not-true _ (c .before .before .if1 .taken)), sym (c .before .is-done .ensures) ∙ c .if2 .taken)
 
--- src/lib.rt:118:9
 returns-2 : tie.Need-returns-2
 unfolding outcomeOk
-returns-2 c = rw (sym (c .before .before .before .is-waiting .ensures) ∙ not-true _ (c .before .before .if1 .taken), idle-sends (c .before .before .before .before .args .w) (sym (c .before .before .before .is-waiting .ensures) ∙ not-true _ (c .before .before .if1 .taken)), sym (c .before .is-done .ensures) ∙ c .if2 .left)
+returns-2 c = rw (sym (c .before .before .before .is-waiting .ensures) ∙ not-true _ (c .before .before .if1 .taken), idle-senderWords (c .before .before .before .before .args .w) (sym (c .before .before .before .is-waiting .ensures) ∙ not-true _ (c .before .before .if1 .taken)), sym (c .before .is-done .ensures) ∙ c .if2 .left)
 
--- src/lib.rt:120:9
 is-none-yet-requires : tie.Need-is-none-yet-requires
 is-none-yet-requires c κs = search needs
 
--- src/lib.rt:121:9
 returns-3 : tie.Need-returns-3
 unfolding outcomeOk
 returns-3 c = rw (sym (c .before .before .before .is-waiting .ensures) ∙ not-false _ (c .before .before .if1 .left), sym (c .before .is-none-yet .ensures) ∙ not-true _ (c .if3 .taken))
 
--- src/lib.rt:123:5
 is-sending-requires : tie.Need-is-sending-requires
 is-sending-requires c κs = search needs
 
--- src/lib.rt:114:1
 returns-4 : tie.Need-returns-4
 unfolding outcomeOk
 returns-4 c = c .if4 .taken ∙ rw (sym (c .before .before .before .before .before .is-waiting .ensures) ∙ not-false _ (c .before .before .before .before .if1 .left), sym (c .before .before .before .is-none-yet .ensures) ∙ not-false _ (c .before .before .if3 .left), sym (c .before .is-sending .ensures) ∙ c .if4 .taken)
 
--- src/lib.rt:114:1
 returns-5 : tie.Need-returns-5
 unfolding outcomeOk
 returns-5 c = rw (sym (c .before .before .before .before .before .is-waiting .ensures) ∙ not-false _ (c .before .before .before .before .if1 .left), sym (c .before .before .before .is-none-yet .ensures) ∙ not-false _ (c .before .before .if3 .left), sym (c .before .is-sending .ensures) ∙ c .if4 .left, none-done (c .before .before .before .before .before .before .args .o) (sym (c .before .before .before .is-none-yet .ensures) ∙ not-false _ (c .before .before .if3 .left)))

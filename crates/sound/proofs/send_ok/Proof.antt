@@ -1,29 +1,22 @@
+-- `sound::send_ok` meets its contract: a number past the threads reads as a free one, to which nobody sends. Assumes nothing.
 use borrow.Author.Tests.{eq-eqb, ne-eqb}
-use Rattle.sound.proofs.Found.{no-thread}
 use borrow.Author.Needs.{needs}
+use Rattle.sound.proofs.Found.{no-thread}
 use Rattle.sound.proofs.send_ok.Statement.{statement}
 use Rattle.sound.proofs.send_ok.Tie as tie
-use Rattle.sound.proofs.send_ok.Reads as reads
-use Rattle.sound.proofs.send_ok.Lts as lts
-use Rattle.records.proofs.load_thread.Reads as load-thread-reads
 
--- src/lib.rt:118:9
 returns : tie.Need-returns
 returns c s e = rw (eq-eqb _ _ (c .if1 .taken))
 
--- src/lib.rt:121:9
 returns-2 : tie.Need-returns-2
 returns-2 c s e = rw (ne-eqb _ _ (c .before .if1 .left), no-thread _ e (c .before .before .before .args .to) (c .if2 .taken))
 
--- src/lib.rt:123:9
 load-thread-requires : tie.Need-load-thread-requires
 load-thread-requires c κs = search needs
 
--- src/lib.rt:113:1
 returns-3 : tie.Need-returns-3
 returns-3 c s e = rw (ne-eqb _ _ (c .before .before .before .if1 .left), ← c .before .load-thread .ensures s e, c .if3 .taken)
 
--- src/lib.rt:113:1
 returns-4 : tie.Need-returns-4
 returns-4 c s e = rw (ne-eqb _ _ (c .before .before .before .if1 .left), ← c .before .load-thread .ensures s e, c .if3 .left)
 

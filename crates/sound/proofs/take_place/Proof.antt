@@ -1,76 +1,58 @@
+-- `sound::take_place` meets its contract: an arm for each kind of line takes the place there, and in no line the place is 0. Assumes nothing.
 use mathlib.Core.Path.{_∙_}
 use Prim.Native.Nat.{_<_}
-use Rattle.sound.proofs.Seating.{nowhere-seated, ready-seated, waiters-seated, senders-seated}
 use borrow.Author.Needs.{needs}
+use Rattle.sound.proofs.OnePlace.{nowhere-takes, ready-takes, waiters-takes, senders-takes}
 use Rattle.sound.proofs.take_place.Statement.{statement}
 use Rattle.sound.proofs.take_place.Tie as tie
-use Rattle.sound.proofs.take_place.Reads as reads
-use Rattle.sound.proofs.take_place.Lts as lts
-use Rattle.places.proofs.take.Reads as take-reads
 
--- src/lib.rt:202:16
 enum-told : tie.Need-enum-told
 enum-told c = search needs
 
--- src/lib.rt:205:17
 take-requires : tie.Need-take-requires
 take-requires c κs = search needs
 
--- src/lib.rt:208:39
 enum-told-2 : tie.Need-enum-told-2
 enum-told-2 c = search needs
 
--- src/lib.rt:209:41
 enum-told-3 : tie.Need-enum-told-3
 enum-told-3 c = search needs
 
--- src/lib.rt:210:22
 enum-known-w : tie.Need-enum-known-w
 enum-known-w c = search needs
 
--- src/lib.rt:210:64
 cast-take : tie.Need-cast-take
 cast-take c = search needs
 
--- src/lib.rt:210:42
 take-requires-2 : tie.Need-take-requires-2
 take-requires-2 c κs = let o : _ < 16 = rw (c .before .before .w .given .1) at (c .before .before .before .before .pre .1) in search needs
 
--- src/lib.rt:211:27
 enum-known-w-2 : tie.Need-enum-known-w-2
 enum-known-w-2 c = search needs
 
--- src/lib.rt:211:69
 cast-take-2 : tie.Need-cast-take-2
 cast-take-2 c = search needs
 
--- src/lib.rt:211:47
 take-requires-3 : tie.Need-take-requires-3
 take-requires-3 c κs = let o : _ < 8 = rw (c .before .before .w2 .given .1) at (c .before .before .before .before .pre .1) in search needs
 
--- src/lib.rt:194:1
 returns : tie.Need-returns
-returns c ts i h own p old = nowhere-seated ts i h old p (own ∙ rw (c .before .enum-told .given .1, c .if1 .taken))
+returns c ts i h own p old = nowhere-takes ts i h old p (own ∙ rw (c .before .enum-told .given .1, c .if1 .taken))
 
--- src/lib.rt:194:1
 returns-2 : tie.Need-returns-2
-returns-2 c ts i h own p old = ready-seated ts i h old p (search needs) (own ∙ rw (c .before .before .before .enum-told .given .1, c .before .before .if1 .left)) (c .take .ensures .0) (c .take .ensures .1)
+returns-2 c ts i h own p old = ready-takes ts i h old p (search needs) (own ∙ rw (c .before .before .before .enum-told .given .1, c .before .before .if1 .left)) (c .take .ensures .0) (c .take .ensures .1)
 
--- src/lib.rt:194:1
 returns-3 : tie.Need-returns-3
-returns-3 c ts i h own p old = nowhere-seated ts i h old p (own ∙ rw (c .enum-told2 .given .1))
+returns-3 c ts i h own p old = nowhere-takes ts i h old p (own ∙ rw (c .enum-told2 .given .1))
 
--- src/lib.rt:194:1
 returns-4 : tie.Need-returns-4
-returns-4 c ts i h own p old = nowhere-seated ts i h old p (own ∙ rw (c .enum-told3 .given .1))
+returns-4 c ts i h own p old = nowhere-takes ts i h old p (own ∙ rw (c .enum-told3 .given .1))
 
--- src/lib.rt:194:1
 returns-5 : tie.Need-returns-5
-returns-5 c ts i h own p old = senders-seated ts i h old p (let o : _ < 16 = rw (c .before .before .before .w .given .1) at (c .before .before .before .before .before .pre .1) in search needs) (own ∙ rw (c .before .before .before .w .given .1)) (c .take2 .ensures .0) (c .take2 .ensures .1)
+returns-5 c ts i h own p old = senders-takes ts i h old p (let o : _ < 16 = rw (c .before .before .before .w .given .1) at (c .before .before .before .before .before .pre .1) in search needs) (own ∙ rw (c .before .before .before .w .given .1)) (c .take2 .ensures .0) (c .take2 .ensures .1)
 
--- src/lib.rt:194:1
 returns-6 : tie.Need-returns-6
-returns-6 c ts i h own p old = waiters-seated ts i h old p (let o : _ < 8 = rw (c .before .before .before .w2 .given .1) at (c .before .before .before .before .before .pre .1) in search needs) (own ∙ rw (c .before .before .before .w2 .given .1)) (c .take3 .ensures .0) (c .take3 .ensures .1)
+returns-6 c ts i h own p old = waiters-takes ts i h old p (let o : _ < 8 = rw (c .before .before .before .w2 .given .1) at (c .before .before .before .before .before .pre .1) in search needs) (own ∙ rw (c .before .before .before .w2 .given .1)) (c .take3 .ensures .0) (c .take3 .ensures .1)
 
 pub take-place-spec : {M : Type 1} → statement M
 take-place-spec =

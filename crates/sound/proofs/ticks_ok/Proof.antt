@@ -1,14 +1,11 @@
+-- `sound::ticks_ok` meets its contract: the branch that is taken is the rule's. Assumes nothing.
 use borrow.Author.Tests.{le-leb, lt-leb}
 use Rattle.sound.proofs.ticks_ok.Statement.{statement}
 use Rattle.sound.proofs.ticks_ok.Tie as tie
-use Rattle.sound.proofs.ticks_ok.Reads as reads
-use Rattle.sound.proofs.ticks_ok.Lts as lts
 
--- src/lib.rt:29:1
 returns : tie.Need-returns
 returns c = rw (le-leb _ _ (c .if1 .taken))
 
--- src/lib.rt:29:1
 returns-2 : tie.Need-returns-2
 returns-2 c = rw (lt-leb _ _ (c .if1 .left))
 

@@ -1,18 +1,14 @@
+-- `sound::turn_ok` meets its contract: the branch that is taken is the rule's. Assumes nothing.
 use borrow.Author.Tests.{eq-eqb, ne-eqb, le-leb, lt-leb}
 use Rattle.sound.proofs.turn_ok.Statement.{statement}
 use Rattle.sound.proofs.turn_ok.Tie as tie
-use Rattle.sound.proofs.turn_ok.Reads as reads
-use Rattle.sound.proofs.turn_ok.Lts as lts
 
--- src/lib.rt:36:1
 returns : tie.Need-returns
 returns c = rw (eq-eqb _ _ (c .before .if1 .taken), le-leb _ _ (c .if2 .taken))
 
--- src/lib.rt:36:1
 returns-2 : tie.Need-returns-2
 returns-2 c = rw (eq-eqb _ _ (c .before .if1 .taken), lt-leb _ _ (c .if2 .left))
 
--- src/lib.rt:36:1
 returns-3 : tie.Need-returns-3
 returns-3 c = rw (ne-eqb _ _ (c .if1 .left))
 

@@ -1,59 +1,43 @@
+-- `sound::used_ok` meets its contract: each test that fails decides, and else the last one does. Assumes nothing.
 use mathlib.Core.Path.{sym, _∙_}
 use borrow.Author.Tests.{not-true, not-false}
+use borrow.Author.Needs.{needs}
 use Rattle.sound.specs.Tested.{usedTest}
 use Rattle.sound.proofs.Used.{used-test}
-use borrow.Author.Needs.{needs}
 use Rattle.sound.proofs.used_ok.Statement.{statement}
 use Rattle.sound.proofs.used_ok.Tie as tie
-use Rattle.sound.proofs.used_ok.Reads as reads
-use Rattle.sound.proofs.used_ok.Lts as lts
-use Rattle.sound.proofs.counter_ok.Reads as counter-ok-reads
-use Rattle.sound.proofs.mail_ok.Reads as mail-ok-reads
-use Rattle.sound.proofs.object_ok.Reads as object-ok-reads
-use Rattle.sound.proofs.outcome_ok.Reads as outcome-ok-reads
-use Rattle.sound.proofs.settings_ok.Reads as settings-ok-reads
 
--- src/lib.rt:174:9
 settings-ok-requires : tie.Need-settings-ok-requires
 settings-ok-requires c κs = search needs
 
--- src/lib.rt:175:9
 returns : tie.Need-returns
 unfolding usedTest
 returns c s e = rw (← used-test, sym (c .before .settings-ok .ensures) ∙ not-true _ (c .if1 .taken))
 
--- src/lib.rt:177:9
 mail-ok-requires : tie.Need-mail-ok-requires
 mail-ok-requires c κs = search needs
 
--- src/lib.rt:178:9
 returns-2 : tie.Need-returns-2
 unfolding usedTest
 returns-2 c s e = rw (← used-test, sym (c .before .before .before .settings-ok .ensures) ∙ not-false _ (c .before .before .if1 .left), sym (c .before .mail-ok .ensures) ∙ not-true _ (c .if2 .taken))
 
--- src/lib.rt:180:9
 counter-ok-requires : tie.Need-counter-ok-requires
 counter-ok-requires c κs = search needs
 
--- src/lib.rt:181:9
 returns-3 : tie.Need-returns-3
 unfolding usedTest
 returns-3 c s e = rw (← used-test, sym (c .before .before .before .before .before .settings-ok .ensures) ∙ not-false _ (c .before .before .before .before .if1 .left), sym (c .before .before .before .mail-ok .ensures) ∙ not-false _ (c .before .before .if2 .left), sym (c .before .counter-ok .ensures) ∙ not-true _ (c .if3 .taken))
 
--- src/lib.rt:183:9
 object-ok-requires : tie.Need-object-ok-requires
 object-ok-requires c κs = search needs
 
--- src/lib.rt:184:9
 returns-4 : tie.Need-returns-4
 unfolding usedTest
 returns-4 c s e = rw (← used-test, sym (c .before .before .before .before .before .before .before .settings-ok .ensures) ∙ not-false _ (c .before .before .before .before .before .before .if1 .left), sym (c .before .before .before .before .before .mail-ok .ensures) ∙ not-false _ (c .before .before .before .before .if2 .left), sym (c .before .before .before .counter-ok .ensures) ∙ not-false _ (c .before .before .if3 .left), sym (c .before .object-ok .ensures s e) ∙ not-true _ (c .if4 .taken))
 
--- src/lib.rt:186:5
 outcome-ok-requires : tie.Need-outcome-ok-requires
 outcome-ok-requires c κs = search needs
 
--- src/lib.rt:168:1
 returns-5 : tie.Need-returns-5
 unfolding usedTest
 returns-5 c s e = rw (← used-test, sym (c .before .before .before .before .before .before .before .before .settings-ok .ensures) ∙ not-false _ (c .before .before .before .before .before .before .before .if1 .left), sym (c .before .before .before .before .before .before .mail-ok .ensures) ∙ not-false _ (c .before .before .before .before .before .if2 .left), sym (c .before .before .before .before .counter-ok .ensures) ∙ not-false _ (c .before .before .before .if3 .left), sym (c .before .before .object-ok .ensures s e) ∙ not-false _ (c .before .if4 .left)) (c .outcome-ok .ensures)

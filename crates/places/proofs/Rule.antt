@@ -11,7 +11,7 @@ use borrow.Author.Tests.{eq-eqb, ne-eqb, le-leb, leb-true}
 use lib.Dec.{eqb, leb, eqb·suc-suc}
 use lib.ListN.{length, getD, set, take, length-set}
 use lib.Seq.{getD-set-same, getD-set-other}
-use Rattle.rules.specs.Basic.{if_then_else_, bit, count}
+use Rattle.rules.specs.Basic.{bit, count}
 use Rattle.rules.specs.Board.{printer}
 use Rattle.rules.specs.State.{free, at}
 use Rattle.rules.specs.Lines.{Line, ready, waiters, senders, same, line, inLine, lineLength}
@@ -24,7 +24,7 @@ use Rattle.laws.proofs.Reflect.{reflect}
 use Rattle.laws.proofs.Counts.{count-in, count-some, count-split}
 use Rattle.laws.proofs.Places.{stands, upTo, up-one}
 use Rattle.lines.proofs.Turns.{count-turn}
-use Rattle.places.specs.Taken.{bitAt, Taken, Closed, vacant, taking, noGap, isFree}
+use Rattle.places.specs.Taken.{bitAt, Taken, Closed, vacant, taking, noGap, unshared}
 use Rattle.places.proofs.Bits.{bit-none, bit-most, bit-added, closed-or}
 
 -- a kind of lines: its numbers tell them apart, and they are lines
@@ -47,11 +47,11 @@ none-taken kind words ts z = record { says = λ n q h. rw (z n) (bit-none q) }
 -- ONE THREAD MORE
 
 -- a word says whether the place of a thread of its line can be taken
-vacant-free : (word m place : ℕ) {kind : ℕ → Line} (k : Kind kind) (xs : List Thread) (t : Thread) → line t ≡ kind m → t .place ≡ place
-    → ((q : ℕ) → bitAt word q ≡ count (standsAt (kind m) (suc q)) xs) → vacant word place ≡ isFree xs t
-unfolding vacant isFree
-vacant-free word m zero k xs t own p says = rw (own, k .somewhere m, p)
-vacant-free word m (suc q) k xs t own p says = let e : suc q - 1 ≡ q = omega arith in rw (own, k .somewhere m, p, e, says q)
+vacant-unshared : (word m place : ℕ) {kind : ℕ → Line} (k : Kind kind) (xs : List Thread) (t : Thread) → line t ≡ kind m → t .place ≡ place
+    → ((q : ℕ) → bitAt word q ≡ count (standsAt (kind m) (suc q)) xs) → vacant word place ≡ unshared xs t
+unfolding vacant unshared
+vacant-unshared word m zero k xs t own p says = rw (own, k .somewhere m, p)
+vacant-unshared word m (suc q) k xs t own p says = let e : suc q - 1 ≡ q = omega arith in rw (own, k .somewhere m, p, e, says q)
 
 module _ {kind : ℕ → Line} (k : Kind kind) (words : List ℕ) (ts : List Thread) (i : ℕ) (inside : i < length ts) (old : Taken kind words (take i ts)) where
   -- it stands in another kind of line, or in none
@@ -61,8 +61,8 @@ module _ {kind : ℕ → Line} (k : Kind kind) (words : List ℕ) (ts : List Thr
   -- it stands in line m of this kind
   module _ {after : List ℕ} {m place : ℕ} {r : Bool} (within : m < length words) (own : line (at ts i) ≡ kind m) (p : at ts i .place ≡ place)
       (answer : r ≡ vacant (getD words m 0) place) (written : after ≡ taking words m place) where
-    pub takes-answer : r ≡ isFree (take i ts) (at ts i)
-    takes-answer = answer ∙ vacant-free (getD words m 0) m place k (take i ts) (at ts i) own p (λ q. old .says m q within)
+    pub takes-answer : r ≡ unshared (take i ts) (at ts i)
+    takes-answer = answer ∙ vacant-unshared (getD words m 0) m place k (take i ts) (at ts i) own p (λ q. old .says m q within)
 
     -- the bit that is set is what the thread adds to the count
     more : (n q : ℕ) → 1 ≤ place → count (standsAt (kind n) (suc q)) (take (i + 1) ts) ≡ count (standsAt (kind n) (suc q)) (take i ts) + bit (eqb m n && eqb (place - 1) q)
@@ -152,9 +152,9 @@ module _ {kind : ℕ → Line} (k : Kind kind) (words : List ℕ) (ts : List Thr
   placed-no-gap lines = le-leb _ _ (closed-or (getD words n 0) .1 (lines-closed lines))
 
 -- of the threads before a well placed one nobody has its place
-pub placed-free : (ts : List Thread) → length ts ≤ printer .threads → (i : ℕ) → i < length ts → placeOk ts (at ts i) ≡ true → isFree (take i ts) (at ts i) ≡ true
-unfolding placeOk isFree
-placed-free ts most i h ok =
+pub placed-unshared : (ts : List Thread) → length ts ≤ printer .threads → (i : ℕ) → i < length ts → placeOk ts (at ts i) ≡ true → unshared (take i ts) (at ts i) ≡ true
+unfolding placeOk unshared
+placed-unshared ts most i h ok =
     let x = simp reflect at ok in
     let t = at ts i in
     let f = standsAt (line t) (t .place) in
