@@ -61,15 +61,19 @@ wait-line (Semaphore on n) suspended p h o = o
 
 module _ {readyWords waiterWords senderWords : List ℕ} (ts : List Thread) (all : AllTaken readyWords waiterWords senderWords ts) where
   -- with no gaps, a thread in a line of the table
-  taken-placed : Lengths readyWords waiterWords senderWords → NoGaps readyWords waiterWords senderWords → (xs : List Thread) (i : ℕ) → unshared xs (at ts i) ≡ true → (l : Line) → line (at ts i) ≡ l → OfTable l → placeOk ts (at ts i) ≡ true
+  taken-placed : Lengths readyWords waiterWords senderWords → NoGaps readyWords waiterWords senderWords → (xs : List Thread) (i : ℕ)
+      → unshared xs (at ts i) ≡ true → (l : Line) → line (at ts i) ≡ l → OfTable l → placeOk ts (at ts i) ≡ true
   unfolding unshared placeOk
   taken-placed long gaps xs i e nowhere own o = rw own (rw own at e)
   taken-placed long gaps xs i e (ready p) own o =
-      let x = simp reflect at (rw own at e) in no-gap-placed ready-kind readyWords ts (all .inReady) p (omega arith) (all-at noGap 0 readyWords (gaps .inReady) refl p) i own (x .0 .0)
+      let x = simp reflect at (rw own at e) in
+      no-gap-placed ready-kind readyWords ts (all .inReady) p (omega arith) (all-at noGap 0 readyWords (gaps .inReady) refl p) i own (x .0 .0)
   taken-placed long gaps xs i e (waiters k) own o =
-      let x = simp reflect at (rw own at e) in no-gap-placed waiters-kind waiterWords ts (all .inWaiters) k (omega arith) (all-at noGap 0 waiterWords (gaps .inWaiters) refl k) i own (x .0 .0)
+      let x = simp reflect at (rw own at e) in
+      no-gap-placed waiters-kind waiterWords ts (all .inWaiters) k (omega arith) (all-at noGap 0 waiterWords (gaps .inWaiters) refl k) i own (x .0 .0)
   taken-placed long gaps xs i e (senders k) own o =
-      let x = simp reflect at (rw own at e) in no-gap-placed senders-kind senderWords ts (all .inSenders) k (omega arith) (all-at noGap 0 senderWords (gaps .inSenders) refl k) i own (x .0 .0)
+      let x = simp reflect at (rw own at e) in
+      no-gap-placed senders-kind senderWords ts (all .inSenders) k (omega arith) (all-at noGap 0 senderWords (gaps .inSenders) refl k) i own (x .0 .0)
 
   pub lines-no-gaps : Lines ts → NoGaps readyWords waiterWords senderWords
   lines-no-gaps h = record {

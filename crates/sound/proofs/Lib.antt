@@ -1,6 +1,6 @@
 -- Laws that the test of a table cites.
 mod Found
-mod Used
+mod Order
 mod OnePlace
 mod Threads
 mod AllPlaces

@@ -12,8 +12,8 @@ use Rattle.places.specs.Taken.{vacant, taking, unshared}
 use Rattle.places.proofs.Rule.{ready-kind, waiters-kind, senders-kind, stays, takes-answer, takes}
 use Rattle.sound.specs.Tested.{AllTaken, TakesPlace}
 
-module _ (ts : List Thread) (i : ℕ) (inside : i < length ts) {readyWords waiterWords senderWords : List ℕ} (old : AllTaken readyWords waiterWords senderWords (take i ts))
-    {place : ℕ} (p : at ts i .place ≡ place) where
+module _ (ts : List Thread) (i : ℕ) (inside : i < length ts)
+    {readyWords waiterWords senderWords : List ℕ} (old : AllTaken readyWords waiterWords senderWords (take i ts)) {place : ℕ} (p : at ts i .place ≡ place) where
   pub nowhere-takes : line (at ts i) ≡ nowhere → TakesPlace (eqb place 0) readyWords waiterWords senderWords ts i
   unfolding unshared
   nowhere-takes own = record {
@@ -26,7 +26,8 @@ module _ (ts : List Thread) (i : ℕ) (inside : i < length ts) {readyWords waite
   }
 
   module _ {after : List ℕ} {n : ℕ} {r : Bool} where
-    pub ready-takes : n < length readyWords → line (at ts i) ≡ ready n → r ≡ vacant (getD readyWords n 0) place → after ≡ taking readyWords n place → TakesPlace r after waiterWords senderWords ts i
+    pub ready-takes : n < length readyWords → line (at ts i) ≡ ready n → r ≡ vacant (getD readyWords n 0) place → after ≡ taking readyWords n place
+        → TakesPlace r after waiterWords senderWords ts i
     ready-takes within own answer written = record {
       answer = takes-answer ready-kind readyWords ts i inside (old .inReady) within own p answer written;
       taken = λ e. record {
@@ -36,7 +37,8 @@ module _ (ts : List Thread) (i : ℕ) (inside : i < length ts) {readyWords waite
       };
     }
 
-    pub waiters-takes : n < length waiterWords → line (at ts i) ≡ waiters n → r ≡ vacant (getD waiterWords n 0) place → after ≡ taking waiterWords n place → TakesPlace r readyWords after senderWords ts i
+    pub waiters-takes : n < length waiterWords → line (at ts i) ≡ waiters n → r ≡ vacant (getD waiterWords n 0) place → after ≡ taking waiterWords n place
+        → TakesPlace r readyWords after senderWords ts i
     waiters-takes within own answer written = record {
       answer = takes-answer waiters-kind waiterWords ts i inside (old .inWaiters) within own p answer written;
       taken = λ e. record {
@@ -46,7 +48,8 @@ module _ (ts : List Thread) (i : ℕ) (inside : i < length ts) {readyWords waite
       };
     }
 
-    pub senders-takes : n < length senderWords → line (at ts i) ≡ senders n → r ≡ vacant (getD senderWords n 0) place → after ≡ taking senderWords n place → TakesPlace r readyWords waiterWords after ts i
+    pub senders-takes : n < length senderWords → line (at ts i) ≡ senders n → r ≡ vacant (getD senderWords n 0) place → after ≡ taking senderWords n place
+        → TakesPlace r readyWords waiterWords after ts i
     senders-takes within own answer written = record {
       answer = takes-answer senders-kind senderWords ts i inside (old .inSenders) within own p answer written;
       taken = λ e. record {

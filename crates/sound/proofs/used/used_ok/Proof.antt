@@ -1,11 +1,11 @@
--- `sound::used_ok` meets its contract: each test that fails decides, and else the last one does. Assumes nothing.
+-- `sound::used::used_ok` meets its contract: each test that fails decides, and else the last one does. Assumes nothing.
 use mathlib.Core.Path.{sym, _∙_}
 use borrow.Author.Tests.{not-true, not-false}
 use borrow.Author.Needs.{needs}
 use Rattle.sound.specs.Tested.{usedTest}
-use Rattle.sound.proofs.Used.{used-test}
-use Rattle.sound.proofs.used_ok.Statement.{statement}
-use Rattle.sound.proofs.used_ok.Tie as tie
+use Rattle.sound.proofs.Order.{used-test}
+use Rattle.sound.proofs.used.used_ok.Statement.{statement}
+use Rattle.sound.proofs.used.used_ok.Tie as tie
 
 settings-ok-requires : tie.Need-settings-ok-requires
 settings-ok-requires c κs = search needs

@@ -1,9 +1,9 @@
--- `sound::send_ok` meets its contract: a number past the threads reads as a free one, to which nobody sends. Assumes nothing.
+-- `sound::used::send_ok` meets its contract: a number past the threads reads as a free one, to which nobody sends. Assumes nothing.
 use borrow.Author.Tests.{eq-eqb, ne-eqb}
 use borrow.Author.Needs.{needs}
 use Rattle.sound.proofs.Found.{no-thread}
-use Rattle.sound.proofs.send_ok.Statement.{statement}
-use Rattle.sound.proofs.send_ok.Tie as tie
+use Rattle.sound.proofs.used.send_ok.Statement.{statement}
+use Rattle.sound.proofs.used.send_ok.Tie as tie
 
 returns : tie.Need-returns
 returns c s e = rw (eq-eqb _ _ (c .if1 .taken))

@@ -1,7 +1,7 @@
--- `sound::ticks_ok` meets its contract: the branch that is taken is the rule's. Assumes nothing.
+-- `sound::used::ticks_ok` meets its contract: the branch that is taken is the rule's. Assumes nothing.
 use borrow.Author.Tests.{le-leb, lt-leb}
-use Rattle.sound.proofs.ticks_ok.Statement.{statement}
-use Rattle.sound.proofs.ticks_ok.Tie as tie
+use Rattle.sound.proofs.used.ticks_ok.Statement.{statement}
+use Rattle.sound.proofs.used.ticks_ok.Tie as tie
 
 returns : tie.Need-returns
 returns c = rw (le-leb _ _ (c .if1 .taken))

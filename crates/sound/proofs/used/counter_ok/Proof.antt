@@ -1,7 +1,7 @@
--- `sound::counter_ok` meets its contract: an arm for each kind of wait, as the rule has it. Assumes nothing.
+-- `sound::used::counter_ok` meets its contract: an arm for each kind of wait, as the rule has it. Assumes nothing.
 use borrow.Author.Needs.{needs}
-use Rattle.sound.proofs.counter_ok.Statement.{statement}
-use Rattle.sound.proofs.counter_ok.Tie as tie
+use Rattle.sound.proofs.used.counter_ok.Statement.{statement}
+use Rattle.sound.proofs.used.counter_ok.Tie as tie
 
 enum-known-w : tie.Need-enum-known-w
 enum-known-w c = search needs

@@ -1,11 +1,11 @@
--- `sound::outcome_ok` meets its contract: who does not wait does not send, and an outcome that is none yet is not done, so a test is left out on each way. Assumes nothing.
+-- `sound::used::outcome_ok` meets its contract: who does not wait does not send, and an outcome that is none yet is not done, so a test is left out on each way. Assumes nothing.
 use mathlib.Core.Path.{sym, _∙_}
 use borrow.Author.Tests.{not-true, not-false}
 use borrow.Author.Needs.{needs}
 use Rattle.sound.specs.Tested.{outcomeOk}
-use Rattle.sound.proofs.Used.{idle-senderWords, none-done}
-use Rattle.sound.proofs.outcome_ok.Statement.{statement}
-use Rattle.sound.proofs.outcome_ok.Tie as tie
+use Rattle.sound.proofs.Order.{idle-senderWords, none-done}
+use Rattle.sound.proofs.used.outcome_ok.Statement.{statement}
+use Rattle.sound.proofs.used.outcome_ok.Tie as tie
 
 is-waiting-requires : tie.Need-is-waiting-requires
 is-waiting-requires c κs = search needs

@@ -1,7 +1,7 @@
--- `sound::turn_ok` meets its contract: the branch that is taken is the rule's. Assumes nothing.
+-- `sound::used::turn_ok` meets its contract: the branch that is taken is the rule's. Assumes nothing.
 use borrow.Author.Tests.{eq-eqb, ne-eqb, le-leb, lt-leb}
-use Rattle.sound.proofs.turn_ok.Statement.{statement}
-use Rattle.sound.proofs.turn_ok.Tie as tie
+use Rattle.sound.proofs.used.turn_ok.Statement.{statement}
+use Rattle.sound.proofs.used.turn_ok.Tie as tie
 
 returns : tie.Need-returns
 returns c = rw (eq-eqb _ _ (c .before .if1 .taken), le-leb _ _ (c .if2 .taken))

@@ -1,7 +1,7 @@
--- `sound::mail_ok` meets its contract: the branch that is taken is the rule's. Assumes nothing.
+-- `sound::used::mail_ok` meets its contract: the branch that is taken is the rule's. Assumes nothing.
 use borrow.Author.Needs.{needs}
-use Rattle.sound.proofs.mail_ok.Statement.{statement}
-use Rattle.sound.proofs.mail_ok.Tie as tie
+use Rattle.sound.proofs.used.mail_ok.Statement.{statement}
+use Rattle.sound.proofs.used.mail_ok.Tie as tie
 
 returns : tie.Need-returns
 returns c = search needs

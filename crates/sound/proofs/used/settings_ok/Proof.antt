@@ -1,8 +1,8 @@
--- `sound::settings_ok` meets its contract: the branch that is taken is the rule's. Assumes nothing.
+-- `sound::used::settings_ok` meets its contract: the branch that is taken is the rule's. Assumes nothing.
 use borrow.Author.Tests.{le-leb, lt-leb}
 use borrow.Author.Needs.{needs}
-use Rattle.sound.proofs.settings_ok.Statement.{statement}
-use Rattle.sound.proofs.settings_ok.Tie as tie
+use Rattle.sound.proofs.used.settings_ok.Statement.{statement}
+use Rattle.sound.proofs.used.settings_ok.Tie as tie
 
 returns : tie.Need-returns
 returns c = rw (lt-leb _ _ (c .if1 .taken))

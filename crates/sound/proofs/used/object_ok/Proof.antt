@@ -1,7 +1,7 @@
--- `sound::object_ok` meets its contract: an arm for each kind of wait, as the rule has it. Assumes nothing.
+-- `sound::used::object_ok` meets its contract: an arm for each kind of wait, as the rule has it. Assumes nothing.
 use borrow.Author.Needs.{needs}
-use Rattle.sound.proofs.object_ok.Statement.{statement}
-use Rattle.sound.proofs.object_ok.Tie as tie
+use Rattle.sound.proofs.used.object_ok.Statement.{statement}
+use Rattle.sound.proofs.used.object_ok.Tie as tie
 
 enum-told : tie.Need-enum-told
 enum-told c = search needs

@@ -1,8 +1,8 @@
--- `sound::pend_ok` meets its contract: a number past the semaphores reads as a free one, on which nobody waits. Assumes nothing.
+-- `sound::used::pend_ok` meets its contract: a number past the semaphores reads as a free one, on which nobody waits. Assumes nothing.
 use borrow.Author.Needs.{needs}
 use Rattle.sound.proofs.Found.{no-sem}
-use Rattle.sound.proofs.pend_ok.Statement.{statement}
-use Rattle.sound.proofs.pend_ok.Tie as tie
+use Rattle.sound.proofs.used.pend_ok.Statement.{statement}
+use Rattle.sound.proofs.used.pend_ok.Tie as tie
 
 returns : tie.Need-returns
 returns c s e = rw (no-sem _ e (c .before .before .args .on) (c .if1 .taken))
