@@ -7,8 +7,8 @@ use Rattle.rules.specs.Board.{Board}
 use Rattle.rules.specs.Table.{wordAt, decode}
 use Rattle.rules.specs.Door.{Doored}
 use Rattle.rules.specs.Trace.{TraceLine, served, traceLine}
-use Rattle.listing.specs.Text.{lineText}
-use Rattle.listing.specs.Puts.{Puts}
+use Rattle.text.specs.Text.{lineText}
+use Rattle.text.specs.Puts.{Puts}
 
 -- a line that is put with the door's code, the area's value and the table's running thread is the trace's
 pub line-put : (b : Board) (n : ℕ) (d : Doored) (out : List ℕ) (to : ℕ) (out′ : List ℕ) (next : ℕ) (code : ℤ) (value running : ℕ) (area table : List ℕ)

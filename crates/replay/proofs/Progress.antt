@@ -11,9 +11,9 @@ use Rattle.rules.specs.Board.{printer}
 use Rattle.rules.specs.Requests.{requestLength}
 use Rattle.rules.specs.Door.{Doored, door}
 use Rattle.rules.specs.Trace.{TraceLine, records, cleanArea, traceLine, traceFrom}
-use Rattle.listing.specs.Text.{lineText, traceText}
-use Rattle.listing.specs.Puts.{Puts, lineRoom}
-use Rattle.listing.proofs.Putting.{_followed-by_}
+use Rattle.text.specs.Text.{lineText, traceText}
+use Rattle.text.specs.Puts.{Puts, lineRoom}
+use Rattle.text.proofs.Putting.{_followed-by_}
 use Rattle.replay.specs.Replay.{tableAfter, wholeRecords, Replayed}
 
 -- what `left` records from place `at` on still make of a table and still print

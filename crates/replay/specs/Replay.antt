@@ -7,8 +7,8 @@ use Rattle.rules.specs.Board.{Board, printer}
 use Rattle.rules.specs.Requests.{requestLength}
 use Rattle.rules.specs.Door.{door}
 use Rattle.rules.specs.Trace.{records, cleanArea, traceFrom}
-use Rattle.listing.specs.Text.{traceText}
-use Rattle.listing.specs.Puts.{Puts, lineRoom}
+use Rattle.text.specs.Text.{traceText}
+use Rattle.text.specs.Puts.{Puts, lineRoom}
 
 -- the table after records are served, each with a clean area
 unfoldable pub tableAfter : Board → List ℕ → List (List ℕ) → List ℕ

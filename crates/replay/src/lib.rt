@@ -6,8 +6,8 @@ ghost use Rattle.rules.specs.Board.{printer, tableLength};
 ghost use Rattle.rules.specs.Requests.{requestLength};
 ghost use Rattle.rules.specs.Door.{door, freshTable};
 ghost use Rattle.rules.specs.Trace.{cleanArea, traceLine};
-ghost use Rattle.listing.specs.Text.{lineText};
-ghost use Rattle.listing.specs.Puts.{Puts, lineRoom};
+ghost use Rattle.text.specs.Text.{lineText};
+ghost use Rattle.text.specs.Puts.{Puts, lineRoom};
 ghost use Rattle.replay.specs.Replay.{Replayed};
 use reader::Read;
 
@@ -44,7 +44,7 @@ fn serve_record(
     let code = kernel::speltmallet_door(table, &input[at..at + 12], &mut area);
     let value = words::word_at(&area, 4);
     let running = records::running(table);
-    listing::put_line(out, to, number, code, value, running as u8)
+    text::put_line(out, to, number, code, value, running as u8)
 }
 
 // The whole records of `input` are served, and their lines, numbered from `first` on, go to the start of `out`; the place after them is

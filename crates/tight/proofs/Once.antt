@@ -8,7 +8,7 @@ use Rattle.rules.specs.Table.{decode}
 use Rattle.layout.proofs.Held.{becomes-one, said-one}
 use Rattle.lines.proofs.Numbered.{numbered}
 use Rattle.waiting.proofs.Doing.{does-one}
-use Rattle.listing.proofs.Putting.{puts-tight}
+use Rattle.text.proofs.Putting.{puts-tight}
 use Rattle.tight.specs.Tight.{Tight}
 
 pub tight : Tight

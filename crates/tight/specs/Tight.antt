@@ -14,7 +14,7 @@ use Rattle.rules.specs.declared.Answer.{Answer}
 use Rattle.layout.specs.Held.{Whole, Becomes}
 use Rattle.lines.specs.Numbers.{lineNumber}
 use Rattle.waiting.specs.Does.{Serves, Does}
-use Rattle.listing.specs.Puts.{Puts}
+use Rattle.text.specs.Puts.{Puts}
 
 -- what a function that reads says of its answer r: it is what the state that the table says gives
 abbrev pub Reads : {A : Type 0} → List ℕ → (State → A) → A → Type 0

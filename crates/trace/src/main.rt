@@ -1,5 +1,5 @@
 // The trace program: it reads request records from standard input, puts them to the kernel's door from a fresh table on, and prints a line
-// for each. What is printed is decided by the crates `replay` and `listing`, which are proved to print the rules' trace; here buffers are moved.
+// for each. What is printed is decided by the crates `replay` and `text`, which are proved to print the rules' trace; here buffers are moved.
 ghost use Prim.Native.Nat.{_+_, _*_, _≤_, _<_};
 ghost use mathlib.Core.Path.{_≡_};
 ghost use lib.ListN.{length};
@@ -115,7 +115,7 @@ fn serve_block(table: &mut [u8], first: u64) -> Served
 // The left-over bytes' line.
 fn say_short(rest: usize) {
     let mut line = [0u8; 27];
-    let next = listing::put_short(&mut line, 0, rest);
+    let next = text::put_short(&mut line, 0, rest);
     if !io::write_all(libc::STDOUT_FILENO, &line[..next]) {
         io::write_all(
             libc::STDERR_FILENO,

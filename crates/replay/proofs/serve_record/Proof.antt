@@ -12,7 +12,7 @@ use Rattle.replay.proofs.serve_record.Tie as tie
 use Rattle.replay.proofs.serve_record.Reads as reads
 use Rattle.replay.proofs.serve_record.Lts as lts
 use Rattle.kernel.proofs.speltmallet_door.Reads as speltmallet-door-reads
-use Rattle.listing.proofs.put_line.Reads as put-line-reads
+use Rattle.text.proofs.put_line.Reads as put-line-reads
 use Rattle.records.proofs.running.Reads as running-reads
 use Rattle.words.proofs.word_at.Reads as word-at-reads
 

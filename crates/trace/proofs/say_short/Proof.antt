@@ -8,7 +8,7 @@ use Rattle.trace.proofs.say_short.Tie as tie
 use Rattle.trace.proofs.say_short.Reads as reads
 use Rattle.trace.proofs.say_short.Lts as lts
 use Rattle.io.proofs.write_all.Reads as write-all-reads
-use Rattle.listing.proofs.put_short.Reads as put-short-reads
+use Rattle.text.proofs.put_short.Reads as put-short-reads
 
 -- src/main.rt:74:35
 slice-aggregate-put-short : tie.Need-slice-aggregate-put-short

@@ -7,8 +7,8 @@ use native.Mathlib.Nat.{add-zero}
 use lib.ListN.{length, set, take, drop, length-append}
 use lib.Seq.{sets, sets-eq}
 use Rattle.rules.specs.Trace.{TraceLine}
-use Rattle.listing.specs.Text.{lineText, traceText}
-use Rattle.listing.specs.Puts.{Puts}
+use Rattle.text.specs.Text.{lineText, traceText}
+use Rattle.text.specs.Puts.{Puts}
 
 sets-append : (l : List ℕ) (at : ℕ) (t u : List ℕ) → sets (sets l at t) (at + length t) u ≡ sets l at (t ++ u)
 sets-append l at [] u = ap (λ (k : ℕ). sets l k u) (add-zero at)

@@ -10,7 +10,7 @@ use native.Mathlib.Omega.{arith}
 use lib.Dec.{ltb}
 use lib.ListN.{length, length-append}
 use borrow.Author.Tests.{ltb-false, lt-ltb, le-ltb}
-use Rattle.listing.specs.Text.{digit, digits, decimal}
+use Rattle.text.specs.Text.{digit, digits, decimal}
 
 one : (k n : ℕ) → digits k true n ≡ digit n ∷ []
 unfolding digits

@@ -5,10 +5,9 @@ use lib.IntN.{ℤ, pos, negsuc}
 use lib.ListN.{length}
 use mir.Syntax.{w8, w32, w64}
 use mir.Val.{Fits, SFits}
-use mir.ValLaws.{toZ-ofZ}
-use Rattle.listing.specs.Text.{decimal, codeText}
-use Rattle.listing.proofs.Decimal.{decimal-room}
-use Rattle.listing.proofs.Sign.{read}
+use Rattle.text.specs.Text.{decimal, signed}
+use Rattle.text.proofs.Decimal.{decimal-room}
+use Rattle.text.proofs.Sign.{wide, wide-same}
 
 pub room-64 : {n : ℕ} → Fits w64 n → length (decimal n) ≤ 20
 room-64 f = decimal-room 19 (omega (arith, f .fits))
@@ -19,10 +18,10 @@ room-32 f = decimal-room 9 (omega (arith, f .fits))
 pub room-8 : {n : ℕ} → Fits w8 n → length (decimal n) ≤ 3
 room-8 f = decimal-room 2 (omega (arith, f .fits))
 
-code-room : (z : ℤ) → SFits w32 z → length (codeText z) ≤ 11
+code-room : (z : ℤ) → SFits w32 z → length (signed z) ≤ 11
 code-room (pos n) f = omega (arith, decimal-room 9 {n = n} (omega (arith, f .sfits)))
 code-room (negsuc n) f = omega (arith, decimal-room 9 {n = suc n} (omega (arith, f .sfits)))
 
--- of a code as a callee reads it
-pub room-code : {z : ℤ} → SFits w32 z → length (codeText (read z)) ≤ 11
-room-code {z} f = rw (toZ-ofZ w32 z f) (code-room z f)
+-- of a code as a callee that takes 64 bits reads it
+pub room-code : {z : ℤ} → SFits w32 z → length (signed (wide z)) ≤ 11
+room-code {z} f = rw (wide-same f) (code-room z f)

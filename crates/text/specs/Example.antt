@@ -4,7 +4,7 @@ use mathlib.Core.List.{List, [], _∷_, _++_}
 use Prim.Native.Nat.{ℕ}
 use Rattle.rules.specs.Board.{printer}
 use Rattle.rules.specs.Trace.{trace}
-use Rattle.listing.specs.Text.{ascii, traceText}
+use Rattle.text.specs.Text.{ascii, traceText}
 
 -- "Records: Create 1 (priority 5, turn 2); Create 2 (5, 3); Tick; Tick; Make 0 with 0; Pend 0 for 100,000; Post 0 by 1;
 -- Pend 0 for 0; operation 99; Outcome 2; then 3 bytes."

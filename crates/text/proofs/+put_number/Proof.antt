@@ -1,18 +1,18 @@
--- `listing::put_number` meets its contract. It ends because n / 10 is less than n from 10 on, and what it puts is by then the
+-- `text::put_number` meets its contract. It ends because n / 10 is less than n from 10 on, and what it puts is by then the
 -- digits before the last, and the last. Assumes nothing.
 use Prim.Native.Nat.{ℕ, _<_}
 use native.Mathlib.Omega.{arith}
 use borrow.Author.Needs.{needs}
 use borrow.Fn.Kinds.{In}
 use borrow.Fn.PlainCycle.{Measures, is, falls, and}
-use Rattle.listing.proofs.Decimal.{decimal-one, decimal-more, length-one, length-more}
-use Rattle.listing.proofs.Putting.{_followed-by_}
-use Rattle.listing.proofs.put_number.Reads as put-number
-use Rattle.listing.proofs.put_number.Kinds as put-number-kinds
-use Rattle.listing.proofs.put_byte.Reads as put-byte
-use Rattle.listing.proofs.+put_number.Lts-put_number as lts
-use Rattle.listing.proofs.+put_number.{statement}
-use Rattle.listing.proofs.+put_number.Tie.{close}
+use Rattle.text.proofs.Decimal.{decimal-one, decimal-more, length-one, length-more}
+use Rattle.text.proofs.Putting.{_followed-by_}
+use Rattle.text.proofs.put_number.Reads as put-number
+use Rattle.text.proofs.put_number.Kinds as put-number-kinds
+use Rattle.text.proofs.put_byte.Reads as put-byte
+use Rattle.text.proofs.+put_number.Lts-put_number as lts
+use Rattle.text.proofs.+put_number.{statement}
+use Rattle.text.proofs.+put_number.Tie.{close}
 
 abbrev μ : Measures 1 put-number-kinds.ps ℕ
 μ κs a = a .1 .1 .0

@@ -29,13 +29,13 @@ digits (suc k) false n = digits k (ltb (n / 10) 10) (n / 10) ++ (digit (n % 10) 
 unfoldable pub decimal : ℕ → List ℕ
 decimal n = digits n (ltb n 10) n
 
--- a code in decimal: `negsuc n` is −(n + 1)
-abbrev pub codeText : ℤ → List ℕ
-codeText (pos n) = decimal n
-codeText (negsuc n) = ascii "-" ++ decimal (suc n)
+-- a number with its sign, in decimal: `negsuc n` is −(n + 1)
+abbrev pub signed : ℤ → List ℕ
+signed (pos n) = decimal n
+signed (negsuc n) = ascii "-" ++ decimal (suc n)
 
 abbrev pub lineText : TraceLine → List ℕ
-lineText (served n c v r) = decimal n ++ ascii " " ++ codeText c ++ ascii " " ++ decimal v ++ ascii " " ++ decimal r ++ ascii "\n"
+lineText (served n c v r) = decimal n ++ ascii " " ++ signed c ++ ascii " " ++ decimal v ++ ascii " " ++ decimal r ++ ascii "\n"
 lineText (short n) = ascii "short " ++ decimal n ++ ascii "\n"
 
 abbrev pub traceText : List TraceLine → List ℕ

@@ -1,16 +1,16 @@
--- `listing::put_short` meets its contract: six stores put its word, and a field the number. Assumes nothing.
+-- `text::put_short` meets its contract: six stores put its word, and a field the number. Assumes nothing.
 use mathlib.Core.Path.{_≡_, refl, _∙_}
 use mathlib.Core.List.{List}
 use Prim.Native.Nat.{ℕ, suc, _+_}
 use native.Mathlib.Omega.{arith}
 use lib.ListN.{set, length-set}
 use borrow.Author.Needs.{needs}
-use Rattle.listing.specs.Text.{ascii}
-use Rattle.listing.specs.Puts.{Puts}
-use Rattle.listing.proofs.Room.{room-64}
-use Rattle.listing.proofs.Putting.{_followed-by_}
-use Rattle.listing.proofs.put_short.Statement.{statement}
-use Rattle.listing.proofs.put_short.Tie as tie
+use Rattle.text.specs.Text.{ascii}
+use Rattle.text.specs.Puts.{Puts}
+use Rattle.text.proofs.Room.{room-64}
+use Rattle.text.proofs.Putting.{_followed-by_}
+use Rattle.text.proofs.put_short.Statement.{statement}
+use Rattle.text.proofs.put_short.Tie as tie
 
 -- what the six stores leave
 word : (l : List ℕ) (at : ℕ)

@@ -1,14 +1,14 @@
-// The lines that the trace program prints, put into a lent buffer one after the other. Each function puts its text from
-// place `at` on, leaves every other byte, and answers the place after it.
+// Texts that programs print, put into a lent buffer one after the other: bytes, numbers in decimal, and the lines of a trace. Each function
+// puts its text from place `at` on, leaves every other byte, and answers the place after it.
 ghost use mathlib.Core.Path.{_≡_};
 ghost use mathlib.Core.List.{[], _∷_, _++_};
 ghost use Prim.Native.Nat.{_+_, _≤_, _<_};
 ghost use lib.ListN.{length};
 ghost use Rattle.rules.specs.Trace.{served, short};
-ghost use Rattle.listing.specs.Text.{decimal, codeText, lineText};
-ghost use Rattle.listing.specs.Puts.{Puts, lineRoom, shortRoom};
+ghost use Rattle.text.specs.Text.{decimal, signed, lineText};
+ghost use Rattle.text.specs.Puts.{Puts, lineRoom, shortRoom};
 
-fn put_byte(out: &mut [u8], at: usize, byte: u8) -> usize
+pub fn put_byte(out: &mut [u8], at: usize, byte: u8) -> usize
     requires { ⌜ at < length (now out) ⌝ }
     ensures { λ next. ⌜ Puts (now (out .entry)) at (byte ∷ []) (now (out .exit)) next ⌝ }
 {
@@ -16,8 +16,8 @@ fn put_byte(out: &mut [u8], at: usize, byte: u8) -> usize
     at + 1
 }
 
-// The digits before the last, then the last.
-fn put_number(out: &mut [u8], at: usize, n: u64) -> usize
+// A number in decimal: the digits before the last, then the last.
+pub fn put_number(out: &mut [u8], at: usize, n: u64) -> usize
     requires { ⌜ at + length (decimal n) ≤ length (now out) ⌝ }
     ensures { λ next. ⌜ Puts (now (out .entry)) at (decimal n) (now (out .exit)) next ⌝ }
 {
@@ -30,7 +30,7 @@ fn put_number(out: &mut [u8], at: usize, n: u64) -> usize
 }
 
 // A number and the byte after it.
-fn put_field(out: &mut [u8], at: usize, n: u64, after: u8) -> usize
+pub fn put_field(out: &mut [u8], at: usize, n: u64, after: u8) -> usize
     requires { ⌜ at + length (decimal n) < length (now out) ⌝ }
     ensures { λ next. ⌜ Puts (now (out .entry)) at (decimal n ++ (after ∷ [])) (now (out .exit)) next ⌝ }
     ensures { λ next. ⌜ next ≡ at + length (decimal n) + 1 ⌝ }
@@ -39,16 +39,16 @@ fn put_field(out: &mut [u8], at: usize, n: u64, after: u8) -> usize
     put_byte(out, end, after)
 }
 
-// The other side of −2^31 has no place in an i32, so it is taken in an i64.
-fn put_code(out: &mut [u8], at: usize, code: i32) -> usize
-    requires { ⌜ at + length (codeText code) ≤ length (now out) ⌝ }
-    ensures { λ next. ⌜ Puts (now (out .entry)) at (codeText code) (now (out .exit)) next ⌝ }
+// A number with its sign. −2^63 has no other side in an i64, so a negative number goes by its complement, which is one less.
+pub fn put_signed(out: &mut [u8], at: usize, n: i64) -> usize
+    requires { ⌜ at + length (signed n) ≤ length (now out) ⌝ }
+    ensures { λ next. ⌜ Puts (now (out .entry)) at (signed n) (now (out .exit)) next ⌝ }
 {
-    if code < 0 {
+    if n < 0 {
         let first = put_byte(out, at, b'-');
-        put_number(out, first, (0 - code as i64) as u64)
+        put_number(out, first, (!n as u64) + 1)
     } else {
-        put_number(out, at, code as u64)
+        put_number(out, at, n as u64)
     }
 }
 
@@ -59,7 +59,7 @@ pub fn put_line(out: &mut [u8], at: usize, number: u64, code: i32, value: u32, r
     ensures { λ next. ⌜ next ≤ at + lineRoom ⌝ }
 {
     let a = put_field(out, at, number, b' ');
-    let b = put_code(out, a, code);
+    let b = put_signed(out, a, code as i64);
     let c = put_byte(out, b, b' ');
     let d = put_field(out, c, value as u64, b' ');
     put_field(out, d, running as u64, b'\n')

@@ -15,9 +15,9 @@ use Rattle.rules.specs.Time.{doLock, doUnlock, charge, charged, countDown, time
 use Rattle.rules.specs.Steps.{step}
 use Rattle.rules.specs.Door.{serveDecoded, door, fresh, freshTable}
 use Rattle.rules.specs.Trace.{served, short, records, traceFrom, trace}
-use Rattle.listing.specs.Text.{ascii, digits, decimal, codeText, lineText}
-use Rattle.listing.specs.Puts.{lineRoom, shortRoom}
-use Rattle.listing.specs.Example.{ExampleRun}
+use Rattle.text.specs.Text.{ascii, digits, decimal, signed, lineText}
+use Rattle.text.specs.Puts.{lineRoom, shortRoom}
+use Rattle.text.specs.Example.{ExampleRun}
 
 pub example-run : ExampleRun
 unfolding leave join move topBelow top settle waitOf outcomeOf threadRow threadOf semRow semOf kernelRow flat encode rows decode placeOk freeOk usedOk threadOk semOk initOk kernelOk sound soundTable areaOf requestOf decodeRequest endWait serve block mustWait doYield doCreate deleted doDelete doSet doSuspend doResume doDelay breakOff doCancel delivered doSend doSendFromInterrupt emptied doReceive doMake doDrop doPend doAbort posted doPost doPostFromInterrupt doLock doUnlock charge charged countDown timeouts doTick doOutcome step serveDecoded door fresh freshTable records traceFrom trace digits decimal
@@ -25,7 +25,7 @@ example-run = refl
 
 pub numbers :
     (decimal 0 ≡ ascii "0") × (decimal 9 ≡ ascii "9") × (decimal 10 ≡ ascii "10") × (decimal 4294967295 ≡ ascii "4294967295")
-    × (decimal 18446744073709551615 ≡ ascii "18446744073709551615") × (codeText (negsuc 7) ≡ ascii "-8")
+    × (decimal 18446744073709551615 ≡ ascii "18446744073709551615") × (signed (negsuc 7) ≡ ascii "-8")
 unfolding digits decimal
 numbers = (refl, refl, refl, refl, refl, refl)
 
