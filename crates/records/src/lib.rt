@@ -14,47 +14,17 @@ ghost use Rattle.rules.specs.Table.{kindOf, objectOf, waitOf, outcomeByte, outc
 ghost use Rattle.records.specs.Fields.{withUsed};
 ghost use Rattle.layout.specs.Held.{Whole, Becomes, onThreads, onSems};
 use rules::Outcome;
+use rules::RECORD;
+use rules::SEMAPHORES_FROM;
 use rules::Sem;
 use rules::Thread;
 use rules::Wait;
+use rules::field;
 
-// "25 records of 24 bytes": a record's length, the first semaphore's record, and the bytes of the kernel's.
-const RECORD: usize = 24;
+// The bytes of the kernel's record.
+const RUNNING: usize = rules::KERNEL_FROM + field::RUNNING;
 
-const SEMAPHORES: usize = 384;
-
-const RUNNING: usize = 576;
-
-const LOCK: usize = 577;
-
-// The first byte of a thread's record and of a semaphore's.
-const USED: usize = 0;
-
-// The other bytes of a thread's record.
-const PRIORITY: usize = 1;
-
-const SUSPENDED: usize = 2;
-
-const KIND: usize = 3;
-
-const OBJECT: usize = 4;
-
-const PLACE: usize = 5;
-
-const FULL: usize = 6;
-
-const OUTCOME: usize = 7;
-
-const TURN: usize = 8;
-
-const COUNTER: usize = 12;
-
-const VALUE: usize = 16;
-
-const PARCEL: usize = 20;
-
-// The other byte of a semaphore's record.
-const COUNT: usize = 1;
+const LOCK: usize = rules::KERNEL_FROM + field::LOCK;
 
 // FIELDS
 
@@ -147,19 +117,19 @@ pub fn load_thread(t: &[u8], i: usize) -> Thread
     ensures { λ r. ⌜ ((s : State) → decode printer (now (t .entry)) ≡ s → r ≡ at (s .threads) i) ⌝ }
 {
     let base = i * RECORD;
-    let counter = words::word_at(t, base + COUNTER);
-    let wait = wait_of(t[base + KIND], t[base + OBJECT], counter);
-    let outcome = outcome_of(t[base + OUTCOME]);
-    let turn = words::word_at(t, base + TURN);
-    let value = words::word_at(t, base + VALUE);
-    let parcel = words::word_at(t, base + PARCEL);
+    let counter = words::word_at(t, base + field::COUNTER);
+    let wait = wait_of(t[base + field::KIND], t[base + field::OBJECT], counter);
+    let outcome = outcome_of(t[base + field::OUTCOME]);
+    let turn = words::word_at(t, base + field::TURN);
+    let value = words::word_at(t, base + field::VALUE);
+    let parcel = words::word_at(t, base + field::PARCEL);
     Thread {
-        used: t[base + USED] == 1,
-        priority: t[base + PRIORITY],
-        suspended: t[base + SUSPENDED] == 1,
+        used: t[base + field::USED] == 1,
+        priority: t[base + field::PRIORITY],
+        suspended: t[base + field::SUSPENDED] == 1,
         wait,
-        place: t[base + PLACE],
-        full: t[base + FULL] == 1,
+        place: t[base + field::PLACE],
+        full: t[base + field::FULL] == 1,
         outcome,
         turn,
         value,
@@ -172,7 +142,7 @@ pub fn set_place(t: &mut [u8], i: usize, place: u8)
     requires { ⌜ (i < printer .threads) × Whole printer (now t) ⌝ }
     ensures { λ _. ⌜ Becomes printer (now (t .entry)) (now (t .exit)) (onThreads (edit i (withPlace place))) ⌝ }
 {
-    t[i * RECORD + PLACE] = place;
+    t[i * RECORD + field::PLACE] = place;
 }
 
 // The counter of thread `i`, whatever it waits for.
@@ -180,7 +150,7 @@ pub fn set_counter(t: &mut [u8], i: usize, counter: u32)
     requires { ⌜ (i < printer .threads) × Whole printer (now t) ⌝ }
     ensures { λ _. ⌜ Becomes printer (now (t .entry)) (now (t .exit)) (onThreads (edit i (withCounter counter))) ⌝ }
 {
-    words::put_word(t, i * RECORD + COUNTER, counter);
+    words::put_word(t, i * RECORD + field::COUNTER, counter);
 }
 
 // The wait of thread `i`: its kind, its object and its counter.
@@ -189,9 +159,9 @@ pub fn set_wait(t: &mut [u8], i: usize, w: Wait)
     ensures { λ _. ⌜ Becomes printer (now (t .entry)) (now (t .exit)) (onThreads (edit i (withWait w))) ⌝ }
 {
     let base = i * RECORD;
-    t[base + KIND] = kind_of(w);
-    t[base + OBJECT] = object_of(w);
-    words::put_word(t, base + COUNTER, counter_of(w));
+    t[base + field::KIND] = kind_of(w);
+    t[base + field::OBJECT] = object_of(w);
+    words::put_word(t, base + field::COUNTER, counter_of(w));
 }
 
 // The outcome of thread `i`, with its parcel.
@@ -200,8 +170,8 @@ pub fn set_outcome(t: &mut [u8], i: usize, o: Outcome, parcel: u32)
     ensures { λ _. ⌜ Becomes printer (now (t .entry)) (now (t .exit)) (onThreads (edit i (withOutcome o parcel))) ⌝ }
 {
     let base = i * RECORD;
-    t[base + OUTCOME] = outcome_byte(o);
-    words::put_word(t, base + PARCEL, parcel);
+    t[base + field::OUTCOME] = outcome_byte(o);
+    words::put_word(t, base + field::PARCEL, parcel);
 }
 
 // The mailbox of thread `i`: full or empty, with its value.
@@ -210,8 +180,8 @@ pub fn set_mail(t: &mut [u8], i: usize, full: bool, value: u32)
     ensures { λ _. ⌜ Becomes printer (now (t .entry)) (now (t .exit)) (onThreads (edit i (withMail full value))) ⌝ }
 {
     let base = i * RECORD;
-    t[base + FULL] = flag(full);
-    words::put_word(t, base + VALUE, value);
+    t[base + field::FULL] = flag(full);
+    words::put_word(t, base + field::VALUE, value);
 }
 
 // Whether thread `i` is suspended.
@@ -219,7 +189,7 @@ pub fn set_suspended(t: &mut [u8], i: usize, suspended: bool)
     requires { ⌜ (i < printer .threads) × Whole printer (now t) ⌝ }
     ensures { λ _. ⌜ Becomes printer (now (t .entry)) (now (t .exit)) (onThreads (edit i (withSuspended suspended))) ⌝ }
 {
-    t[i * RECORD + SUSPENDED] = flag(suspended);
+    t[i * RECORD + field::SUSPENDED] = flag(suspended);
 }
 
 // The settings of thread `i`: its priority and its turn.
@@ -228,8 +198,8 @@ pub fn set_settings(t: &mut [u8], i: usize, priority: u8, turn: u32)
     ensures { λ _. ⌜ Becomes printer (now (t .entry)) (now (t .exit)) (onThreads (edit i (withSettings priority turn))) ⌝ }
 {
     let base = i * RECORD;
-    t[base + PRIORITY] = priority;
-    words::put_word(t, base + TURN, turn);
+    t[base + field::PRIORITY] = priority;
+    words::put_word(t, base + field::TURN, turn);
 }
 
 // Whether record `i` is in use.
@@ -237,7 +207,7 @@ fn set_used(t: &mut [u8], i: usize, used: bool)
     requires { ⌜ (i < printer .threads) × Whole printer (now t) ⌝ }
     ensures { λ _. ⌜ Becomes printer (now (t .entry)) (now (t .exit)) (onThreads (edit i (withUsed used))) ⌝ }
 {
-    t[i * RECORD + USED] = flag(used);
+    t[i * RECORD + field::USED] = flag(used);
 }
 
 // Thread `i` becomes `th`.
@@ -286,10 +256,10 @@ pub fn load_sem(t: &[u8], k: usize) -> Sem
     requires { ⌜ (k < printer .sems) × (length (now t) ≡ tableLength printer) ⌝ }
     ensures { λ r. ⌜ ((s : State) → decode printer (now (t .entry)) ≡ s → r ≡ semAt (s .sems) k) ⌝ }
 {
-    let base = SEMAPHORES + k * RECORD;
+    let base = SEMAPHORES_FROM + k * RECORD;
     Sem {
-        used: t[base + USED] == 1,
-        count: t[base + COUNT],
+        used: t[base + field::USED] == 1,
+        count: t[base + field::COUNT],
     }
 }
 
@@ -298,9 +268,9 @@ pub fn set_sem(t: &mut [u8], k: usize, e: Sem)
     requires { ⌜ (k < printer .sems) × Whole printer (now t) ⌝ }
     ensures { λ _. ⌜ Becomes printer (now (t .entry)) (now (t .exit)) (onSems (λ es. set es k e)) ⌝ }
 {
-    let base = SEMAPHORES + k * RECORD;
-    t[base + USED] = flag(e.used);
-    t[base + COUNT] = e.count;
+    let base = SEMAPHORES_FROM + k * RECORD;
+    t[base + field::USED] = flag(e.used);
+    t[base + field::COUNT] = e.count;
 }
 
 // THE KERNEL

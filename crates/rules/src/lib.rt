@@ -1,6 +1,23 @@
 // The words of document 01 as types: what a table holds, what is asked of it, and what is answered.
 // What they mean is said in specs/, in definitions that compute; there is no code here.
 
+pub mod field;
+mod numbers;
+
+pub use numbers::AREA;
+pub use numbers::KERNEL_FROM;
+pub use numbers::MOST_COUNT;
+pub use numbers::MOST_LOCK;
+pub use numbers::MOST_TICKS;
+pub use numbers::PRIORITIES;
+pub use numbers::RECORD;
+pub use numbers::REQUEST;
+pub use numbers::SEMAPHORES;
+pub use numbers::SEMAPHORES_FROM;
+pub use numbers::TABLE;
+pub use numbers::THREADS;
+pub use numbers::TOP_PRIORITY;
+
 // "A thread has one wait at a time, of one kind": the kind, its object and its counter. A thread that waits for
 // nothing has what is left of its turn as its counter.
 pub enum Wait {
