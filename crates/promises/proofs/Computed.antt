@@ -10,9 +10,8 @@ use Rattle.rules.specs.Threads.{doYield, doCreate, deleted, doDelete, doSet, do
 use Rattle.rules.specs.Semaphores.{doMake, doDrop, doPend, posted, doPost, doPostFromInterrupt}
 use Rattle.rules.specs.Time.{doLock, doUnlock, charge, charged, countDown, timeouts, doTick}
 use Rattle.rules.specs.Steps.{step}
-use Rattle.rules.specs.Door.{serveDecoded, door, fresh, freshTable}
+use Rattle.rules.specs.Door.{serveDecoded, door, fresh, freshTable, tableAfter}
 use Rattle.request.specs.Written.{written}
-use Rattle.promises.specs.Demand2.{tableAfter}
 use Rattle.promises.specs.Demand3.{runOf}
 use Rattle.promises.specs.Figures.{sharesFrom, figures}
 use Rattle.promises.specs.Rounds.{start, brokenInto, table, given, expected, Rounds, RefusedTicks}

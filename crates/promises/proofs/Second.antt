@@ -17,7 +17,7 @@ use Rattle.rules.specs.Sound.{Sound, SoundTable}
 use Rattle.rules.specs.Test.{soundTable}
 use Rattle.rules.specs.Waiting.{Step}
 use Rattle.rules.specs.Steps.{step}
-use Rattle.rules.specs.Door.{Doored, serveDecoded, door, freshTable}
+use Rattle.rules.specs.Door.{Doored, serveDecoded, door, freshTable, Handed, tableAfter}
 use Rattle.rules.specs.declared.Request.{Request}
 use Rattle.rules.specs.declared.Decoded.{Decoded}
 use Rattle.rules.specs.declared.Decoded.the-variants.{Asked, Bad}
@@ -27,7 +27,7 @@ use Rattle.layout.proofs.Records.{length-encode}
 use Rattle.layout.proofs.RoundTrip.{on-decode, decode-encode}
 use Rattle.preservation.proofs.Frame.{on-kept, running-kept}
 use Rattle.preservation.proofs.Steps.{kept}
-use Rattle.promises.specs.Demand2.{RunsFirst, Ruled, Handed, tableAfter, Demand2}
+use Rattle.promises.specs.Demand2.{RunsFirst, Ruled, Demand2}
 use Rattle.promises.proofs.First.{served}
 
 -- the table of a sound state is sound

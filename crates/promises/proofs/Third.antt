@@ -14,7 +14,7 @@ use Rattle.rules.specs.Table.{decode}
 use Rattle.rules.specs.Answers.{areaLength}
 use Rattle.rules.specs.Requests.{decodeRequest}
 use Rattle.rules.specs.Test.{soundTable}
-use Rattle.rules.specs.Door.{serveDecoded, door}
+use Rattle.rules.specs.Door.{serveDecoded, door, Handed}
 use Rattle.rules.specs.declared.Decoded.{Decoded}
 use Rattle.rules.specs.declared.Decoded.the-variants.{Asked, Bad}
 use Rattle.laws.proofs.Split.{and-true, and-both, and-off, if-case}
@@ -23,7 +23,6 @@ use Rattle.preservation.proofs.Frame.{on-kept}
 use Rattle.fairness.specs.Run.{Event, Deed, tick, yield, other, change, deed, accepted, readyAt, sameSet, disturbs, undisturbed}
 use Rattle.fairness.specs.Fair.{ByRules, refused, served, RunFrom, moves, steady}
 use Rattle.fairness.proofs.Fair.{fairness}
-use Rattle.promises.specs.Demand2.{Handed}
 use Rattle.promises.specs.Demand3.{eventOf, runOf, Demand3}
 
 -- NOBODY MOVES BY ITSELF

@@ -3,7 +3,7 @@
 -- The rules are the definitions of crate `rules`; the kernel's code is proved to give what they say. Here is what they then keep true.
 use mathlib.Core.Bool.{true}
 use mathlib.Core.Path.{_≡_}
-use mathlib.Core.List.{List, [], _∷_}
+use mathlib.Core.List.{List}
 use Prim.Native.Nat.{ℕ, _≤_}
 use lib.ListN.{length}
 use Rattle.rules.specs.Board.{Board, printer}
@@ -14,7 +14,7 @@ use Rattle.rules.specs.Requests.{decodeRequest}
 use Rattle.rules.specs.Sound.{SoundTable}
 use Rattle.rules.specs.Waiting.{Step}
 use Rattle.rules.specs.Steps.{step}
-use Rattle.rules.specs.Door.{Doored, answered, door, freshTable}
+use Rattle.rules.specs.Door.{Doored, answered, door, freshTable, Handed, tableAfter}
 use Rattle.rules.specs.declared.Request.{Request}
 use Rattle.rules.specs.declared.Decoded.the-variants.{Asked}
 
@@ -35,16 +35,6 @@ pub record Ruled (b : Board) (t r a : List ℕ) (d : Doored) : Type 0 where
   pub unlocked : decode b (d .table) .lock ≡ 0 → RunsFirst (decode b (d .table))
   -- "with lock above 0 it doesn't change."
   pub locked : (decode b (d .table) .lock ≡ 0 → ⊥) → decode b (d .table) .running ≡ decode b t .running
-
--- what is handed to the door with a table
-pub record Handed : Type 0 where
-  pub request : List ℕ
-  pub area : List ℕ
-
--- the table after a run, in which each call finds the table that the one before it leaves
-unfoldable pub tableAfter : Board → List ℕ → List Handed → List ℕ
-tableAfter b t [] = t
-tableAfter b t (h ∷ hs) = tableAfter b (door b t (h .request) (h .area) .table) hs
 
 pub record Demand2 : Type 0 where
   pub ruled : (b : Board) (t r a : List ℕ) → SoundTable b t → Ruled b t r a (door b t r a)

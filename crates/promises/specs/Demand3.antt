@@ -15,8 +15,7 @@ use Rattle.rules.specs.State.{at}
 use Rattle.rules.specs.Table.{decode}
 use Rattle.rules.specs.Requests.{decodeRequest}
 use Rattle.rules.specs.Sound.{SoundTable}
-use Rattle.rules.specs.Door.{Doored, door}
-use Rattle.promises.specs.Demand2.{Handed}
+use Rattle.rules.specs.Door.{Doored, door, Handed}
 use Rattle.fairness.specs.Run.{Event, readyAt, sameSet, undisturbed, sumTurns, chargedTo, chargedRank}
 
 -- a door answers a table, a record and an area; the rules' is `door b`

@@ -9,17 +9,17 @@ use Rattle.rules.specs.Board.{printer}
 use Rattle.rules.specs.Lines.{ready, inLine}
 use Rattle.rules.specs.Table.{decode}
 use Rattle.rules.specs.Test.{soundTable}
-use Rattle.rules.specs.Trace.{cleanArea}
+use Rattle.rules.specs.Door.{Handed}
+use Rattle.rules.specs.Trace.{cleanly}
 use Rattle.rules.specs.declared.Thread.{Thread}
 use Rattle.rules.specs.declared.Request.{Request}
 use Rattle.request.specs.Written.{written}
 use Rattle.fairness.specs.Run.{Event, sameSet, undisturbed, sumTurns, chargedTo, chargedRank}
-use Rattle.promises.specs.Demand2.{Handed}
 use Rattle.promises.specs.Demand3.{Door, runOf}
 
 -- requests, each as its record with an area of 8 bytes
 abbrev pub asks : List Request → List Handed
-asks rs = map (λ r. record { request = written r; area = cleanArea }) rs
+asks rs = map (λ r. cleanly (written r)) rs
 
 -- a run from a table, and which part of it is counted
 pub record Run : Type 0 where

@@ -12,10 +12,9 @@ use Rattle.rules.specs.Board.{printer}
 use Rattle.rules.specs.State.{State, at, caller, isReady, withThreads}
 use Rattle.rules.specs.Lines.{move}
 use Rattle.rules.specs.Table.{encode, decode}
-use Rattle.rules.specs.Door.{door, freshTable}
+use Rattle.rules.specs.Door.{door, freshTable, tableAfter}
 use Rattle.rules.specs.declared.Request.{Request}
 use Rattle.rules.specs.declared.Request.the-variants.{Create, Make, Pend, PostFromInterrupt, Tick}
-use Rattle.promises.specs.Demand2.{tableAfter}
 use Rattle.promises.specs.Demand3.{Door, FairDoor}
 use Rattle.promises.specs.Figures.{asks, share, Figures, figures}
 

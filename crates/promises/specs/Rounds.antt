@@ -9,11 +9,10 @@ use lib.IntN.{negsuc}
 use lib.ListN.{length, replicate, take, drop}
 use Rattle.rules.specs.Board.{printer}
 use Rattle.rules.specs.Trace.{cleanArea}
-use Rattle.rules.specs.Door.{door, freshTable}
+use Rattle.rules.specs.Door.{door, freshTable, Handed, tableAfter}
 use Rattle.rules.specs.declared.Request.{Request}
 use Rattle.rules.specs.declared.Request.the-variants.{Yield, Create, Delete, Set, Suspend, Resume, Lock, Unlock, Tick}
 use Rattle.request.specs.Written.{written}
-use Rattle.promises.specs.Demand2.{Handed, tableAfter}
 use Rattle.promises.specs.Demand3.{runOf}
 use Rattle.promises.specs.Figures.{asks, Run, Share, share, Figures, figures, ownTurns}
 

@@ -3,6 +3,7 @@ use mathlib.Core.Bool.{Bool, true, false, _&&_}
 use mathlib.Core.List.{List, [], _∷_}
 use Prim.Native.Nat.{ℕ, zero, suc, _+_}
 use lib.Dec.{eqb}
+use lib.ListN.{take, drop}
 
 infix 0 if_then_else_
 abbrev pub if_then_else_ : {A : Type 0} → Bool → A → A → A
@@ -32,6 +33,11 @@ all test (x ∷ xs) = test x && all test xs
 abbrev pub allBelow : ℕ → (ℕ → Bool) → Bool
 allBelow zero test = true
 allBelow (suc n) test = allBelow n test && test n
+
+-- the first n pieces of a list, each of a width
+abbrev pub pieces : {A : Type 0} → ℕ → ℕ → List A → List (List A)
+pieces width zero xs = []
+pieces width (suc n) xs = take width xs ∷ pieces width n (drop width xs)
 
 -- are two lists of bytes the same
 abbrev pub sameBytes : List ℕ → List ℕ → Bool

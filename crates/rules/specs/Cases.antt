@@ -8,8 +8,8 @@ use lib.ListN.{length, take, drop}
 use Rattle.rules.specs.Board.{Board, printer, recordLength}
 use Rattle.rules.specs.Table.{wordBytes}
 use Rattle.rules.specs.Requests.{requestLength}
-use Rattle.rules.specs.Door.{door, freshTable}
-use Rattle.rules.specs.Trace.{TraceLine, served, short, records, cleanArea, trace}
+use Rattle.rules.specs.Door.{freshTable, tableAfter}
+use Rattle.rules.specs.Trace.{TraceLine, served, short, cleanly, trace}
 
 -- REQUESTS, by document 01's numbers
 
@@ -175,16 +175,12 @@ unfoldable pub joined : List (List ℕ) → List ℕ
 joined [] = []
 joined (r ∷ rs) = r ++ joined rs
 
-unfoldable pub tableAfter : List ℕ → List (List ℕ) → List ℕ
-tableAfter t [] = t
-tableAfter t (r ∷ rs) = tableAfter (door printer t r cleanArea .table) rs
-
 unfoldable pub bytesAt : List ℕ → Held → List ℕ
 bytesAt t h = take (length (h .bytes)) (drop (h .thread * recordLength + h .offset) t)
 
 unfoldable pub given : Case → Shown
 given c =
-    let after = tableAfter (freshTable printer) (c .asked) in
+    let after = tableAfter printer (freshTable printer) (map cleanly (c .asked)) in
     record { lines = trace printer (joined (c .asked) ++ c .leftOver); bytes = map (bytesAt after) (c .holds) }
 
 unfoldable pub numbered : ℕ → List Seen → ℕ → List TraceLine

@@ -55,3 +55,15 @@ fresh b = record {
 
 unfoldable pub freshTable : Board → List ℕ
 freshTable b = encode (fresh b)
+
+-- A RUN OF THE DOOR
+
+-- what is handed to the door with a table
+pub record Handed : Type 0 where
+  pub request : List ℕ
+  pub area : List ℕ
+
+-- the table after a run, in which each call finds the table that the one before it leaves
+unfoldable pub tableAfter : Board → List ℕ → List Handed → List ℕ
+tableAfter b t [] = t
+tableAfter b t (h ∷ hs) = tableAfter b (door b t (h .request) (h .area) .table) hs

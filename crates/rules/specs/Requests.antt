@@ -2,9 +2,9 @@
 use mathlib.Core.Bool.{Bool, true, false, _&&_, _||_}
 use mathlib.Core.List.{List, [], _∷_}
 use mathlib.Core.Option.{Option, none, some}
-use Prim.Native.Nat.{ℕ}
+use Prim.Native.Nat.{ℕ, pred}
 use lib.Dec.{eqb}
-use lib.ListN.{length, getD, getElem?}
+use lib.ListN.{length, getD, getElem?, replicate}
 use Rattle.rules.specs.Basic.{if_then_else_}
 use Rattle.rules.specs.Table.{wordAt}
 use Rattle.rules.specs.declared.Request.{Request}
@@ -99,3 +99,7 @@ decodeRequest r =
     if eqb (length r) requestLength && eqb (getD r 3 0) 0
     then requestOf (getD r 0 0) (getD r 1 0) (getD r 2 0) (wordAt r 4) (wordAt r 8)
     else Bad
+
+-- "19 Tick": it uses no field
+abbrev pub tickRecord : List ℕ
+tickRecord = 19 ∷ replicate (pred requestLength) 0

@@ -2,10 +2,10 @@
 -- Wide fields are little-endian."
 use mathlib.Core.Bool.{Bool, true, false}
 use mathlib.Core.List.{List, [], _∷_, _++_, map}
-use Prim.Native.Nat.{ℕ, zero, suc, _+_, _*_, _/_, _%_}
+use Prim.Native.Nat.{ℕ, _+_, _*_, _/_, _%_}
 use lib.Dec.{eqb}
-use lib.ListN.{getD, take, drop, replicate}
-use Rattle.rules.specs.Basic.{if_then_else_, bit}
+use lib.ListN.{getD, drop, replicate}
+use Rattle.rules.specs.Basic.{if_then_else_, bit, pieces}
 use Rattle.rules.specs.Board.{Board, recordLength}
 use Rattle.rules.specs.State.{State, free, freeSem, counterOf}
 use Rattle.rules.specs.declared.Thread.{Thread}
@@ -110,8 +110,7 @@ encode s = flat threadRow (s .threads) ++ (flat semRow (s .sems) ++ kernelRow (s
 
 -- the first n records of a table
 unfoldable pub rows : ℕ → List ℕ → List (List ℕ)
-rows zero t = []
-rows (suc n) t = take recordLength t ∷ rows n (drop recordLength t)
+rows n t = pieces recordLength n t
 
 -- the state that a table says
 unfoldable pub decode : Board → List ℕ → State

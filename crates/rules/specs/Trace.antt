@@ -1,17 +1,17 @@
 -- The trace: what the trace program prints of its input, line by line.
 use mathlib.Core.Bool.{Bool, true, false}
 use mathlib.Core.List.{List, [], _∷_, _++_}
-use Prim.Native.Nat.{ℕ, zero, suc, _/_, _%_}
+use Prim.Native.Nat.{ℕ, suc, _/_, _%_}
 use lib.Dec.{eqb}
 use lib.IntN.{ℤ}
-use lib.ListN.{length, take, drop, replicate}
-use Rattle.rules.specs.Basic.{if_then_else_}
+use lib.ListN.{length, replicate}
+use Rattle.rules.specs.Basic.{if_then_else_, pieces}
 use Rattle.rules.specs.Board.{Board}
 use Rattle.rules.specs.State.{State}
 use Rattle.rules.specs.Table.{wordAt, decode}
 use Rattle.rules.specs.Answers.{areaLength}
 use Rattle.rules.specs.Requests.{requestLength}
-use Rattle.rules.specs.Door.{Doored, door, freshTable}
+use Rattle.rules.specs.Door.{Doored, Handed, door, freshTable}
 
 -- "Per record: record number from 0, code, value, running thread after it."
 -- "Left-over bytes (1 to 11) give a last line `short N`."
@@ -21,12 +21,15 @@ pub data TraceLine : Type 0 where
 
 -- the first n records of the input
 unfoldable pub records : ℕ → List ℕ → List (List ℕ)
-records zero input = []
-records (suc n) input = take requestLength input ∷ records n (drop requestLength input)
+records n input = pieces requestLength n input
 
 -- an area of 8 bytes to write the answer into
 abbrev pub cleanArea : List ℕ
 cleanArea = replicate areaLength 0
+
+-- a record, handed with such an area
+abbrev pub cleanly : List ℕ → Handed
+cleanly r = record { request = r; area = cleanArea }
 
 -- what is printed of a record
 abbrev pub traceLine : Board → ℕ → Doored → TraceLine
