@@ -1,3 +1,5 @@
 -- Laws of replays.
 pub mod Line
 pub mod Progress
+pub mod Parts
+pub mod Kept

@@ -1,7 +1,7 @@
 -- How far a replay has come: the table and the lines so far, with what is left of the input, give those of the whole. A turn takes the
 -- first record of what is left. Assumes nothing.
 use mathlib.Core.Path.{_≡_, refl, ap, sym, subst, _∙_}
-use mathlib.Core.List.{List, [], _∷_, _++_, append-assoc, append-nil}
+use mathlib.Core.List.{List, [], _∷_, _++_, map, append-assoc, append-nil}
 use Prim.Native.Nat.{ℕ, zero, suc, _+_, _*_, _/_, _≤_, _<_}
 use native.Mathlib.Omega.{arith}
 use native.Mathlib.Numerals.{add-one}
@@ -9,12 +9,12 @@ use lib.ListN.{length, take, drop}
 use lib.Seq.{drop-drop}
 use Rattle.rules.specs.Board.{printer}
 use Rattle.rules.specs.Requests.{requestLength}
-use Rattle.rules.specs.Door.{Doored, door}
-use Rattle.rules.specs.Trace.{TraceLine, records, cleanArea, traceLine, traceFrom}
+use Rattle.rules.specs.Door.{Doored, door, tableAfter}
+use Rattle.rules.specs.Trace.{TraceLine, records, cleanArea, cleanly, traceLine, traceFrom, wholeRecords}
 use Rattle.text.specs.Text.{lineText, traceText}
 use Rattle.text.specs.Puts.{Puts, lineRoom}
 use Rattle.text.proofs.Putting.{_followed-by_}
-use Rattle.replay.specs.Replay.{tableAfter, wholeRecords, Replayed}
+use Rattle.replay.specs.Replay.{Replayed}
 
 -- what `left` records from place `at` on still make of a table and still print
 abbrev rest : List ℕ → ℕ → ℕ → List (List ℕ)
@@ -28,7 +28,7 @@ pub record Progress (t₀ input : List ℕ) (first : ℕ) (out₀ t out : List �
   pub place : at ≡ taken * requestLength
   pub count : number ≡ first + taken
   pub room : next ≤ taken * lineRoom
-  pub table : tableAfter printer t₀ (wholeRecords input) ≡ tableAfter printer t (rest input at left)
+  pub table : tableAfter printer t₀ (map cleanly (wholeRecords input)) ≡ tableAfter printer t (map cleanly (rest input at left))
   pub lines : Puts out₀ 0 text out next
   pub printed : traceText (traceFrom printer first t₀ (wholeRecords input)) ≡ text ++ traceText (traceFrom printer number t (rest input at left))
 
@@ -71,7 +71,7 @@ module _ (t₀ input : List ℕ) (first : ℕ) (out₀ : List ℕ) where
           place = omega (arith, p .place);
           count = omega (arith, p .count);
           room = omega (arith, p .room);
-          table = p .table ∙ ap (tableAfter printer t) (behind l e) ∙ ap (λ x. tableAfter printer x (rest input (at + requestLength) l)) (sym et);
+          table = p .table ∙ ap (λ rs. tableAfter printer t (map cleanly rs)) (behind l e) ∙ ap (λ x. tableAfter printer x (map cleanly (rest input (at + requestLength) l))) (sym et);
           lines = p .lines followed-by q;
           printed =
               p .printed
@@ -104,7 +104,7 @@ module _ (t₀ input : List ℕ) (first : ℕ) (out₀ : List ℕ) where
     ended h =
         let e : rest input at (p .left) ≡ [] = ap (rest input at) (none-left h) in
         record {
-          table = sym (p .table ∙ ap (tableAfter printer t) e);
+          table = sym (p .table ∙ ap (λ rs. tableAfter printer t (map cleanly rs)) e);
           lines = rw (p .printed ∙ ap (λ rs. p .text ++ traceText (traceFrom printer number t rs)) e ∙ append-nil (p .text)) (p .lines);
           room = omega (arith, p .room, p .all);
         }

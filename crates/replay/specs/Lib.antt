@@ -1,2 +1,3 @@
 -- What a replay of records promises.
 pub mod Replay
+pub mod Parts

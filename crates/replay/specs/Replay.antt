@@ -1,27 +1,23 @@
 -- What a replay of whole records makes of a table, and what it prints: the rules' trace, as text.
 use mathlib.Core.Path.{_≡_}
-use mathlib.Core.List.{List, [], _∷_}
-use Prim.Native.Nat.{ℕ, _*_, _/_, _≤_}
-use lib.ListN.{length}
-use Rattle.rules.specs.Board.{Board, printer}
+use mathlib.Core.List.{List, map}
+use Prim.Native.Nat.{ℕ, _+_, _*_, _/_, _%_, _≤_}
+use lib.ListN.{length, take, drop}
+use lib.Seq.{sets}
+use Rattle.rules.specs.Board.{printer}
 use Rattle.rules.specs.Requests.{requestLength}
-use Rattle.rules.specs.Door.{door}
-use Rattle.rules.specs.Trace.{records, cleanArea, traceFrom}
+use Rattle.rules.specs.Door.{tableAfter}
+use Rattle.rules.specs.Trace.{cleanly, wholeRecords, traceFrom}
 use Rattle.text.specs.Text.{traceText}
 use Rattle.text.specs.Puts.{Puts, lineRoom}
 
--- the table after records are served, each with a clean area
-unfoldable pub tableAfter : Board → List ℕ → List (List ℕ) → List ℕ
-tableAfter b t [] = t
-tableAfter b t (r ∷ rs) = tableAfter b (door b t r cleanArea .table) rs
-
--- the whole records of some bytes
-abbrev pub wholeRecords : List ℕ → List (List ℕ)
-wholeRecords input = records (length input / requestLength) input
-
 -- the table is the one after the records, and the buffer begins with their lines, numbered from n on
 pub record Replayed (t input : List ℕ) (n : ℕ) (out t′ out′ : List ℕ) (next : ℕ) : Type 0 where
-  pub table : t′ ≡ tableAfter printer t (wholeRecords input)
+  pub table : t′ ≡ tableAfter printer t (map cleanly (wholeRecords input))
   pub lines : Puts out 0 (traceText (traceFrom printer n t (wholeRecords input))) out′ next
   -- there was room for them
   pub room : next ≤ length input / requestLength * lineRoom
+
+-- the bytes behind the last whole record
+abbrev pub leftOver : List ℕ → List ℕ
+leftOver input = drop (length input / requestLength * requestLength) input

@@ -1,26 +1,28 @@
-// Whole records are put to the door one after the other, and what the trace program prints of them is put into a lent buffer.
+// A trace, part by part: whole records are put to the door one after the other, and what is printed of them is put into a lent buffer. What
+// is left over of a part goes before the next one. `specs/Parts.antt` says where a trace stands between two parts.
 ghost use mathlib.Core.Path.{_≡_};
-ghost use Prim.Native.Nat.{_+_, _*_, _/_, _≤_, _<_, _^_};
+ghost use Prim.Native.Nat.{_+_, _-_, _*_, _/_, _%_, _≤_, _<_, _^_};
 ghost use lib.ListN.{length, take, drop};
+ghost use lib.Seq.{sets};
 ghost use Rattle.rules.specs.Board.{printer, tableLength};
 ghost use Rattle.rules.specs.Requests.{requestLength};
 ghost use Rattle.rules.specs.Door.{door, freshTable};
-ghost use Rattle.rules.specs.Trace.{cleanArea, traceLine};
-ghost use Rattle.text.specs.Text.{lineText};
-ghost use Rattle.text.specs.Puts.{Puts, lineRoom};
-ghost use Rattle.replay.specs.Replay.{Replayed};
+ghost use Rattle.rules.specs.Trace.{cleanArea, traceLine, shortLine};
+ghost use Rattle.text.specs.Text.{lineText, traceText};
+ghost use Rattle.text.specs.Puts.{Puts, lineRoom, shortRoom};
+ghost use Rattle.replay.specs.Replay.{Replayed, leftOver};
 use reader::Read;
 
 // A fresh table.
-pub fn fresh() -> [u8; 600]
+pub fn fresh() -> [u8; rules::TABLE]
     ensures { λ r. ⌜ r ≡ freshTable printer ⌝ }
 {
-    let mut t = [0u8; 600];
-    t[0] = 1;
-    t[5] = 1;
-    t[7] = 1;
-    t[8] = 10;
-    t[12] = 10;
+    let mut t = [0u8; rules::TABLE];
+    t[rules::field::USED] = 1;
+    t[rules::field::PLACE] = 1;
+    t[rules::field::OUTCOME] = 1;
+    t[rules::field::TURN] = 10;
+    t[rules::field::COUNTER] = 10;
     t
 }
 
@@ -40,8 +42,8 @@ fn serve_record(
     ensures line { λ next. ⌜ Puts (now (out .entry)) to (lineText (traceLine printer number (door printer (now (table .entry)) (take requestLength (drop at (now (input .entry)))) cleanArea))) (now (out .exit)) next ⌝ }
     ensures room { λ next. ⌜ next ≤ to + lineRoom ⌝ }
 {
-    let mut area = [0u8; 8];
-    let code = kernel::speltmallet_door(table, &input[at..at + 12], &mut area);
+    let mut area = [0u8; rules::AREA];
+    let code = kernel::speltmallet_door(table, &input[at..at + rules::REQUEST], &mut area);
     let value = words::word_at(&area, 4);
     let running = records::running(table);
     text::put_line(out, to, number, code, value, running as u8)
@@ -49,7 +51,7 @@ fn serve_record(
 
 // The whole records of `input` are served, and their lines, numbered from `first` on, go to the start of `out`; the place after them is
 // given back.
-pub fn replay(table: &mut [u8], input: &[u8], first: u64, out: &mut [u8]) -> usize
+fn replay(table: &mut [u8], input: &[u8], first: u64, out: &mut [u8]) -> usize
     requires { ⌜ length (now table) ≡ tableLength printer ⌝ }
     requires { ⌜ first + length (now input) < 2 ^ 64 ⌝ }
     requires { ⌜ length (now input) / requestLength * lineRoom ≤ length (now out) ⌝ }
@@ -64,7 +66,63 @@ pub fn replay(table: &mut [u8], input: &[u8], first: u64, out: &mut [u8]) -> usi
         };
         next = serve_record(table, input, record, number, out, next);
         number += 1;
-        at = record + 12;
+        at = record + rules::REQUEST;
     }
     next
+}
+
+// The bytes from place `from` up to place `n` of the block move to its front. How many they are is given back.
+fn keep(block: &mut [u8], from: usize, n: usize) -> usize
+    requires { ⌜ (from ≤ n) × (n ≤ length (now block)) ⌝ }
+    ensures { λ held. ⌜ held ≡ n - from ⌝ }
+    ensures { λ _. ⌜ now (block .exit) ≡ sets (now (block .entry)) 0 (drop from (take n (now (block .entry)))) ⌝ }
+{
+    let held = n - from;
+    for i in 0..held {
+        block[i] = block[from + i];
+    }
+    held
+}
+
+// Where a trace stands after a part: the number of the next record, how many bytes are held at the front of the block, and the place after
+// the part's lines.
+pub struct Served {
+    pub number: u64,
+    pub held: usize,
+    pub next: usize,
+}
+
+// The first `n` bytes of the block have come, and the next record has number `number`: the whole records among them are served, their lines go
+// to the start of `out`, and what is left over moves to the front of the block.
+pub fn serve(table: &mut [u8], number: u64, block: &mut [u8], n: usize, out: &mut [u8]) -> Served
+    requires { ⌜ length (now table) ≡ tableLength printer ⌝ }
+    requires { ⌜ n ≤ length (now block) ⌝ }
+    requires { ⌜ number + n < 2 ^ 64 ⌝ }
+    requires { ⌜ n / requestLength * lineRoom ≤ length (now out) ⌝ }
+    ensures replayed { λ r. ⌜ Replayed (now (table .entry)) (take n (now (block .entry))) number (now (out .entry)) (now (table .exit)) (now (out .exit)) (r .next) ⌝ }
+    ensures number { λ r. ⌜ r .number ≡ number + n / requestLength ⌝ }
+    ensures held { λ r. ⌜ r .held ≡ n % requestLength ⌝ }
+    ensures block { λ _. ⌜ now (block .exit) ≡ sets (now (block .entry)) 0 (leftOver (take n (now (block .entry)))) ⌝ }
+{
+    let next = replay(table, &block[..n], number, out);
+    let records = n / rules::REQUEST;
+    let held = keep(block, records * rules::REQUEST, n);
+    Served {
+        number: number + records as u64,
+        held,
+        next,
+    }
+}
+
+// The input has ended with so many bytes held: the line that says so, if there are any, goes to the start of `out`; the place after it is
+// given back.
+pub fn finish(held: usize, out: &mut [u8]) -> usize
+    requires { ⌜ shortRoom ≤ length (now out) ⌝ }
+    ensures line { λ next. ⌜ Puts (now (out .entry)) 0 (traceText (shortLine held)) (now (out .exit)) next ⌝ }
+    ensures room { λ next. ⌜ next ≤ shortRoom ⌝ }
+{
+    if held == 0 {
+        return 0;
+    }
+    text::put_short(out, 0, held)
 }

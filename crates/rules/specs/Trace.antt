@@ -42,7 +42,14 @@ traceFrom b n t (r ∷ rs) = let d = door b t r cleanArea in traceLine b n d ∷
 abbrev pub shortLine : ℕ → List TraceLine
 shortLine n = if eqb n 0 then [] else short n ∷ []
 
+-- the whole records of an input
+abbrev pub wholeRecords : List ℕ → List (List ℕ)
+wholeRecords input = records (length input / requestLength) input
+
+-- the trace of an input whose first record has number n and finds table t
+abbrev pub traceOn : Board → ℕ → List ℕ → List ℕ → List TraceLine
+traceOn b n t input = traceFrom b n t (wholeRecords input) ++ shortLine (length input % requestLength)
+
 -- "It reads request records from standard input, starts fresh."
 unfoldable pub trace : Board → List ℕ → List TraceLine
-trace b input =
-    traceFrom b 0 (freshTable b) (records (length input / requestLength) input) ++ shortLine (length input % requestLength)
+trace b input = traceOn b 0 (freshTable b) input

@@ -10,7 +10,7 @@ use Rattle.rules.specs.Trace.{TraceLine}
 use Rattle.text.specs.Text.{lineText, traceText}
 use Rattle.text.specs.Puts.{Puts}
 
-sets-append : (l : List ℕ) (at : ℕ) (t u : List ℕ) → sets (sets l at t) (at + length t) u ≡ sets l at (t ++ u)
+pub sets-append : (l : List ℕ) (at : ℕ) (t u : List ℕ) → sets (sets l at t) (at + length t) u ≡ sets l at (t ++ u)
 sets-append l at [] u = ap (λ (k : ℕ). sets l k u) (add-zero at)
 sets-append l at (b ∷ t) u = ap (λ (k : ℕ). sets (sets (set l at b) (suc at) t) k u) (omega arith) ∙ sets-append (set l at b) (suc at) t u
 
