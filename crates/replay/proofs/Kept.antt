@@ -26,7 +26,7 @@ module _ (l : List ℕ) (from n : ℕ) (inside : n ≤ length l) where
   kept-more i h =
       let size : length (take i kept) ≡ i = length-take-le i kept (omega (arith, kept-length)) in
       let byte : getD (sets l 0 (take i kept)) (from + i) 0 ≡ getD kept i 0 =
-          getD-sets l 0 (take i kept) (from + i) (omega (arith, size)) ∙ sym (getD-drop from (take n l) i 0 ∙ getD-take n l (from + i) 0 h) in
+      getD-sets l 0 (take i kept) (from + i) (omega (arith, size)) ∙ sym (getD-drop from (take n l) i 0 ∙ getD-take n l (from + i) 0 h) in
       let place : 0 + length (take i kept) ≡ i = omega (arith, size) in
       ap (set (sets l 0 (take i kept)) i) byte
       ∙ ap (λ k. sets (sets l 0 (take i kept)) k (getD kept i 0 ∷ [])) (sym place)

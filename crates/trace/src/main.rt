@@ -1,148 +1,173 @@
 // The trace program: it reads request records from standard input, puts them to the kernel's door from a fresh table on, and prints a line
-// for each. What is printed is decided by the crates `replay` and `text`, which are proved to print the rules' trace; here buffers are moved.
-ghost use Prim.Native.Nat.{_+_, _*_, _≤_, _<_};
+// for each. What is printed is decided by the crates `replay` and `text`; here bytes come and go. The lines of a part are written before
+// the next part is read, so that a slow pipe is answered as it speaks.
 ghost use mathlib.Core.Path.{_≡_};
-ghost use lib.ListN.{length};
+ghost use Prim.Native.Nat.{_+_, _*_, _≤_, _<_};
+ghost use lib.ListN.{length, take};
 ghost use Rattle.rules.specs.Board.{printer, tableLength};
+ghost use Rattle.rules.specs.Requests.{requestLength};
+ghost use Rattle.text.specs.Puts.{lineRoom};
+ghost use Rattle.trace.specs.Going.{standing, GoesOn, Ended};
 
-// A block holds 1,024 records of 12 bytes, so that none straddles two blocks; a line takes at most 48 bytes.
-const BLOCK: usize = 12288;
+// A block holds 1,024 records, so that a file's reads leave nothing over; a line takes at most 48 bytes.
+const RECORDS: usize = 1024;
 
-const RECORD: usize = 12;
+const BLOCK: usize = RECORDS * rules::REQUEST;
 
-const LINES: usize = 49152;
+const LINES: usize = RECORDS * 48;
 
-// How many blocks are read at the most: more than any machine has.
-const BLOCKS: u64 = 1125899906842624;
+// How many reads there are at the most: more than any machine makes.
+const READS: u64 = 1125899906842624;
 
-// How many bytes a block was filled with, and whether the input ended there or could not be read.
-struct Filled {
+// What a read leaves: so many bytes are at hand, and whether it failed.
+struct Come {
     n: usize,
-    ended: bool,
     failed: bool,
 }
 
-// What a block came to: its whole records, its left-over bytes, and whether there may be more.
-struct Served {
-    records: u64,
-    rest: usize,
+// Where the trace stands after a turn, the place after the turn's lines, whether anything came, and whether the read failed.
+struct Turned {
+    number: u64,
+    held: usize,
+    next: usize,
     more: bool,
+    failed: bool,
+}
+
+// How many records the run has served, whether the input has ended, and the place after the last line.
+struct Served {
+    number: u64,
+    ended: bool,
+    next: usize,
 }
 
 fn empty_block() -> [u8; BLOCK]
-    ensures { λ r. ⌜ 12288 ≡ length r ⌝ }
+    ensures { λ r. ⌜ 1024 * requestLength ≡ length r ⌝ }
 {
     [0; BLOCK]
 }
 
 fn empty_lines() -> [u8; LINES]
-    ensures { λ r. ⌜ 49152 ≡ length r ⌝ }
+    ensures { λ r. ⌜ 1024 * lineRoom ≡ length r ⌝ }
 {
     [0; LINES]
 }
 
-// Standard input fills the block, by as many reads as that takes.
-fn fill(block: &mut [u8]) -> Filled
-    ensures { λ r. ⌜ r .n ≤ length (now (block .exit)) ⌝ }
+// One read of standard input, behind the bytes that are held: these stay.
+fn read_behind(block: &mut [u8], held: usize) -> Come
+    requires { ⌜ held ≤ length (now block) ⌝ }
+    ensures within { λ r. ⌜ (held ≤ r .n) × (r .n ≤ length (now (block .exit))) ⌝ }
+    ensures held { λ _. ⌜ take held (now (block .exit)) ≡ take held (now (block .entry)) ⌝ }
 {
-    let mut n: usize = 0;
-    while n < block.len() {
-        let got = libc::read(libc::STDIN_FILENO, &mut block[n..]);
-        if got < 0 {
-            return Filled {
-                n,
-                ended: true,
-                failed: true,
-            };
-        }
-        let k = io::count(got, &block[n..]);
-        if k == 0 {
-            return Filled {
-                n,
-                ended: true,
-                failed: false,
-            };
-        }
-        n += k;
+    let got = libc::read(libc::STDIN_FILENO, &mut block[held..]);
+    let k = io::count(got, &block[held..]);
+    Come {
+        n: held + k,
+        failed: got < 0,
     }
-    Filled {
-        n,
-        ended: false,
+}
+
+// A part is read and served.
+fn turn(table: &mut [u8], number: u64, block: &mut [u8], held: usize, lines: &mut [u8]) -> Turned
+    requires { ⌜ length (now table) ≡ tableLength printer ⌝ }
+    requires { ⌜ number < 2305843009213693952 ⌝ }
+    requires { ⌜ length (now block) ≡ 1024 * requestLength ⌝ }
+    requires { ⌜ held < requestLength ⌝ }
+    requires { ⌜ length (now lines) ≡ 1024 * lineRoom ⌝ }
+    ensures on { λ r. ⌜ GoesOn (standing number (now (table .entry)) (now (block .entry)) held) (standing (r .number) (now (table .exit)) (now (block .exit)) (r .held)) (take (r .next) (now (lines .exit))) ⌝ }
+    ensures room { λ r. ⌜ (r .held < requestLength) × (r .number ≤ number + 1024) × (r .next ≤ 1024 * lineRoom) ⌝ }
+{
+    let come = read_behind(block, held);
+    let n = come.n;
+    if n == held {
+        return Turned {
+            number,
+            held,
+            next: 0,
+            more: false,
+            failed: come.failed,
+        };
+    }
+    let served = replay::serve(table, number, block, n, lines);
+    Turned {
+        number: served.number,
+        held: served.held,
+        next: served.next,
+        more: true,
         failed: false,
     }
 }
 
-// A block is read, its records are served and their lines are written. A failure is said on standard error and ends the trace.
-fn serve_block(table: &mut [u8], first: u64) -> Served
+// The first `n` bytes of the lines are written; a failure is said on standard error.
+fn written(lines: &[u8], n: usize) -> bool
+    requires { ⌜ n ≤ length (now lines) ⌝ }
+{
+    if io::write_all(libc::STDOUT_FILENO, &lines[..n]) {
+        return true;
+    }
+    io::write_all(
+        libc::STDERR_FILENO,
+        b"trace: standard output can't be written\n",
+    );
+    false
+}
+
+fn say_unread() {
+    io::write_all(
+        libc::STDERR_FILENO,
+        b"trace: standard input can't be read\n",
+    );
+}
+
+// The whole input is traced, part by part. A failure is said on standard error and ends the trace.
+fn run(table: &mut [u8], lines: &mut [u8]) -> Served
     requires { ⌜ length (now table) ≡ tableLength printer ⌝ }
-    requires { ⌜ first < 2305843009213693952 ⌝ }
-    ensures { λ r. ⌜ (r .records ≤ 1024) × (r .rest < 12) ⌝ }
+    requires { ⌜ length (now lines) ≡ 1024 * lineRoom ⌝ }
+    ensures { λ r. ⌜ Ended (now (table .entry)) (now (table .exit)) (r .number) (r .ended) (take (r .next) (now (lines .exit))) ⌝ }
 {
     let mut block = empty_block();
-    let mut lines = empty_lines();
-    let filled = fill(&mut block);
-    let n = filled.n;
-    let next = replay::replay(table, &block[..n], first, &mut lines);
-    if !io::write_all(libc::STDOUT_FILENO, &lines[..next]) {
-        io::write_all(
-            libc::STDERR_FILENO,
-            b"trace: standard output can't be written\n",
-        );
-        return Served {
-            records: 0,
-            rest: 0,
-            more: false,
-        };
-    }
-    if filled.failed {
-        io::write_all(
-            libc::STDERR_FILENO,
-            b"trace: standard input can't be read\n",
-        );
-        return Served {
-            records: 0,
-            rest: 0,
-            more: false,
-        };
+    let mut number: u64 = 0;
+    let mut held: usize = 0;
+    let mut reads = READS;
+    while 0 < reads {
+        let t = turn(table, number, &mut block, held, lines);
+        number = t.number;
+        held = t.held;
+        if t.failed {
+            say_unread();
+            return Served {
+                number,
+                ended: false,
+                next: 0,
+            };
+        }
+        if !t.more {
+            let next = replay::finish(held, lines);
+            written(lines, next);
+            return Served {
+                number,
+                ended: true,
+                next,
+            };
+        }
+        if !written(lines, t.next) {
+            return Served {
+                number,
+                ended: false,
+                next: 0,
+            };
+        }
+        reads -= 1;
     }
     Served {
-        records: (n / RECORD) as u64,
-        rest: n % RECORD,
-        more: !filled.ended,
-    }
-}
-
-// The left-over bytes' line.
-fn say_short(rest: usize) {
-    let mut line = [0u8; 27];
-    let next = text::put_short(&mut line, 0, rest);
-    if !io::write_all(libc::STDOUT_FILENO, &line[..next]) {
-        io::write_all(
-            libc::STDERR_FILENO,
-            b"trace: standard output can't be written\n",
-        );
-    }
-}
-
-fn run(table: &mut [u8])
-    requires { ⌜ length (now table) ≡ tableLength printer ⌝ }
-{
-    let mut blocks = BLOCKS;
-    let mut first: u64 = 0;
-    while 0 < blocks {
-        let t = serve_block(table, first);
-        if !t.more {
-            if 0 < t.rest {
-                say_short(t.rest);
-            }
-            return;
-        }
-        first += t.records;
-        blocks -= 1;
+        number,
+        ended: false,
+        next: 0,
     }
 }
 
 fn main() {
     let mut table = replay::fresh();
-    run(&mut table);
+    let mut lines = empty_lines();
+    run(&mut table, &mut lines);
 }
