@@ -10,29 +10,7 @@ use Rattle.rules.specs.State.{State, at}
 use Rattle.rules.specs.Lines.{ready, inLine}
 use Rattle.rules.specs.declared.Thread.{Thread}
 use Rattle.rules.specs.declared.Request.{Request}
-use Rattle.rules.specs.declared.Request.the-variants.{
-  Yield,
-  Create,
-  Delete,
-  Set,
-  Suspend,
-  Resume,
-  Delay,
-  Cancel,
-  Send,
-  SendFromInterrupt,
-  Receive,
-  Make,
-  Drop,
-  Pend,
-  Abort,
-  Post,
-  PostFromInterrupt,
-  Lock,
-  Unlock,
-  Tick,
-  Outcome,
-}
+use Rattle.rules.specs.declared.Request.the-variants as Ask
 use Rattle.rules.specs.declared.Decoded.{Decoded}
 use Rattle.rules.specs.declared.Decoded.the-variants.{Asked, Bad}
 
@@ -51,27 +29,27 @@ pub data Deed : Type 0 where
   change : ℕ → Deed
 
 abbrev pub deedOf : Request → Deed
-deedOf Yield = yield
-deedOf (Create i p n) = other
-deedOf (Delete i) = other
-deedOf (Set i p n) = change i
-deedOf (Suspend i) = other
-deedOf (Resume i) = other
-deedOf (Delay n) = other
-deedOf (Cancel i) = other
-deedOf (Send i n x) = other
-deedOf (SendFromInterrupt i x) = other
-deedOf (Receive n) = other
-deedOf (Make k n) = other
-deedOf (Drop k) = other
-deedOf (Pend k n) = other
-deedOf (Abort i) = other
-deedOf (Post k n) = other
-deedOf (PostFromInterrupt k n) = other
-deedOf Lock = other
-deedOf Unlock = other
-deedOf Tick = tick
-deedOf (Outcome i) = other
+deedOf Ask.Yield = yield
+deedOf (Ask.Create i p n) = other
+deedOf (Ask.Delete i) = other
+deedOf (Ask.Set i p n) = change i
+deedOf (Ask.Suspend i) = other
+deedOf (Ask.Resume i) = other
+deedOf (Ask.Delay n) = other
+deedOf (Ask.Cancel i) = other
+deedOf (Ask.Send i n x) = other
+deedOf (Ask.SendFromInterrupt i x) = other
+deedOf (Ask.Receive n) = other
+deedOf (Ask.Make k n) = other
+deedOf (Ask.Drop k) = other
+deedOf (Ask.Pend k n) = other
+deedOf (Ask.Abort i) = other
+deedOf (Ask.Post k n) = other
+deedOf (Ask.PostFromInterrupt k n) = other
+deedOf Ask.Lock = other
+deedOf Ask.Unlock = other
+deedOf Ask.Tick = tick
+deedOf (Ask.Outcome i) = other
 
 -- a record that asks nothing is no such deed
 abbrev pub deed : Decoded → Deed
