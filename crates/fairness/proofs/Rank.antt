@@ -3,7 +3,7 @@
 -- comes to 0 begins again at the sum of the turns. Assumes nothing.
 use mathlib.Core.Path.{_≡_, refl, ap, sym, _∙_}
 use mathlib.Core.Logic.{_≢_}
-use Prim.Native.Nat.{ℕ, zero, suc, pred, _+_, _≤_, _<_}
+use Prim.Native.Nat.{ℕ, zero, suc, pred, _+_, _*_, _≤_, _<_}
 use native.Mathlib.Omega.{arith}
 use native.Mathlib.Decide.{ℕ-discrete, decLe}
 use lib.Dec.{leb, eqb}
@@ -224,6 +224,8 @@ fares n i v v' v'' m c m' c' a b = record {
   turn = λ j. b .turn j ∙ a .turn j;
 }
 
--- a window of exactly as many ticks as the turns sum to
-pub whole-round : (n N N' i c : ℕ) (v v' : ℕ → Cell) → Good n N v → Good n N' v' → 1 ≤ v i .place → 1 ≤ v' i .place → Fare n i v v' (turns n v) c → c ≡ v i .turn
-whole-round n N N' i c v v' g g' h h' a = fair _ _ _ _ _ (a .share) (due-pos g i h) (due-le g (v i .place)) (due-pos g' i h') (omega (arith, due-le g' (v' i .place), same-turns n v v' (a .turn)))
+-- a window of k times as many ticks as the turns sum to: k turns are charged, and the due is as it was
+pub whole-rounds : (k n N N' i c : ℕ) (v v' : ℕ → Cell) → Good n N v → Good n N' v' → 1 ≤ v i .place → 1 ≤ v' i .place → Fare n i v v' (k * turns n v) c
+    → (c ≡ k * v i .turn) × (due n v' (v' i .place) ≡ due n v (v i .place))
+whole-rounds k n N N' i c v v' g g' h h' a =
+    fair k _ _ _ _ _ (a .share) (due-pos g i h) (due-le g (v i .place)) (due-pos g' i h') (omega (arith, due-le g' (v' i .place), same-turns n v v' (a .turn)))

@@ -21,16 +21,21 @@ pub record Event : Type 0 where
   pub code : ℤ
   pub after : State
 
+-- the state that events leave
+abbrev pub endOf : State → List Event → State
+endOf s [] = s
+endOf s (e ∷ es) = endOf (e .after) es
+
 -- WHAT IS ASKED, as far as the demand tells requests apart
 
--- `change i` is a change of the settings of thread i
+-- `change i` is a change of the settings of thread i, and `create i` its creation
 pub data Deed : Type 0 where
   tick yield other : Deed
-  change : ℕ → Deed
+  change create : ℕ → Deed
 
 abbrev pub deedOf : Request → Deed
 deedOf Ask.Yield = yield
-deedOf (Ask.Create i p n) = other
+deedOf (Ask.Create i p n) = create i
 deedOf (Ask.Delete i) = other
 deedOf (Ask.Set i p n) = change i
 deedOf (Ask.Suspend i) = other
@@ -61,6 +66,7 @@ isTick tick = true
 isTick yield = false
 isTick other = false
 isTick (change i) = false
+isTick (create i) = false
 
 -- "accepted": a tick, a yield and a change of settings answer 0 unless they are refused
 abbrev pub isZero : ℤ → Bool
@@ -110,6 +116,7 @@ abbrev pub disturbs : ℕ → State → Deed → Bool
 disturbs p s tick = false
 disturbs p s yield = readyAt p s (s .running)
 disturbs p s (change i) = readyAt p s i
+disturbs p s (create i) = false
 disturbs p s other = false
 
 -- "none of them yields and none is named in an accepted change of settings"

@@ -12,7 +12,7 @@ use Rattle.rules.specs.Time.{doLock, doUnlock, charge, charged, countDown, time
 use Rattle.rules.specs.Steps.{step}
 use Rattle.rules.specs.Door.{serveDecoded, door, fresh, freshTable, tableAfter}
 use Rattle.request.specs.Written.{written}
-use Rattle.promises.specs.Demand3.{runOf}
+use Rattle.fairness.specs.Doors.{runOf}
 use Rattle.promises.specs.Figures.{sharesFrom, figures}
 use Rattle.promises.specs.Rounds.{start, brokenInto, table, given, expected, Rounds, RefusedTicks}
 use Rattle.promises.specs.Incident.{sendsBack, lanes, again, cutAfterTick, cutAtOnce, counted, OnlyTheOddSeats}

@@ -13,7 +13,7 @@ use Rattle.rules.specs.Door.{door, freshTable, Handed, tableAfter}
 use Rattle.rules.specs.declared.Request.{Request}
 use Rattle.rules.specs.declared.Request.the-variants.{Yield, Create, Delete, Set, Suspend, Resume, Lock, Unlock, Tick}
 use Rattle.request.specs.Written.{written}
-use Rattle.promises.specs.Demand3.{runOf}
+use Rattle.fairness.specs.Doors.{runOf}
 use Rattle.promises.specs.Figures.{asks, Run, Share, share, Figures, figures, ownTurns}
 
 unfoldable pub start : List ℕ
