@@ -2,9 +2,8 @@
 -- ladder of tests in the order of the first table, and each test is the second table's condition. Assumes nothing.
 use mathlib.Core.Bool.{Bool, true, false, not, _&&_, _||_}
 use mathlib.Core.Path.{_≡_, refl}
-use mathlib.Core.List.{List, [], _∷_}
 use mathlib.Core.Option.{Option, none, some}
-use Prim.Native.Nat.{ℕ, _+_}
+use Prim.Native.Nat.{ℕ}
 use native.Mathlib.Omega.{arith}
 use native.Mathlib.Decide.{ℕ-discrete}
 use lib.Dec.{eqb, leb, ltb}
@@ -21,11 +20,11 @@ use Rattle.rules.specs.Steps.{step}
 use Rattle.rules.specs.declared.Wait.{Wait}
 use Rattle.rules.specs.declared.Outcome as Outcome
 use Rattle.rules.specs.declared.Refusal.{Refusal}
-use Rattle.rules.specs.declared.Refusal.the-variants.{BadThread, BadPriority, BadTicks, BadState, BadOperation, BadSemaphore}
+use Rattle.rules.specs.declared.Refusal.the-variants.{BadOperation, BadSemaphore}
 use Rattle.rules.specs.declared.Request.{Request}
 use Rattle.rules.specs.declared.Request.the-variants as Ask
-use Rattle.laws.proofs.Split.{Is, is, isnt, test, clash, if-case}
-use Rattle.promises.specs.Refusals.{given, order, firstGiven, refusal, refusalIn, locked, cannotWait}
+use Rattle.laws.proofs.Split.{is, isnt, test, if-case}
+use Rattle.promises.specs.Refusals.{firstGiven, refusal, refusalIn, locked, cannotWait}
 
 -- a step answers one refusal or none, and leaves the state where it refuses
 pub record Says (s : State) (why : Option Refusal) (r : Step) : Type 0 where

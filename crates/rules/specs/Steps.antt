@@ -1,6 +1,4 @@
 -- A step: what a request answers and leaves, by its operation.
-use mathlib.Core.List.{List, [], _∷_}
-use Prim.Native.Nat.{ℕ}
 use Rattle.rules.specs.State.{State}
 use Rattle.rules.specs.Waiting.{Step}
 use Rattle.rules.specs.Threads.{doYield, doCreate, doDelete, doSet, doSuspend, doResume, doDelay, doCancel}
