@@ -78,6 +78,6 @@ decodeRequest r =
     then requestOf (getD r 0 0) (getD r 1 0) (getD r 2 0) (wordAt r 4) (wordAt r 8)
     else Bad
 
--- "19 Tick": it uses no field
+-- the record of "19 Tick", which uses no field
 abbrev pub tickRecord : List ℕ
 tickRecord = 19 ∷ replicate (pred requestLength) 0
