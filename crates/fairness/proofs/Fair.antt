@@ -1,9 +1,9 @@
--- Fairness: a tick charged to the rank lowers each member's due by 1, every other step leaves the rank as it is, and where as many ticks
--- are charged to the rank as its turns sum to, each due has come round once. Assumes nothing.
+-- Fairness: a tick charged to the rank lowers each member's due by 1, every other step leaves the rank as it is, and where k
+-- times as many ticks are charged to the rank as its turns sum to, each due has come round k times. Assumes nothing.
 use mathlib.Core.Bool.{Bool, true, false, _&&_}
 use mathlib.Core.Path.{_≡_, refl, ap, sym, _∙_}
 use mathlib.Core.List.{List, [], _∷_, _++_}
-use Prim.Native.Nat.{ℕ, _+_, _<_}
+use Prim.Native.Nat.{ℕ, _*_, _<_}
 use native.Mathlib.Omega.{arith}
 use lib.Dec.{eqb}
 use borrow.Author.Tests.{not-true}
@@ -21,11 +21,11 @@ use Rattle.laws.proofs.Split.{is, isnt, test, and-true, and-both, and-off}
 use Rattle.laws.proofs.Members.{in-range, Σ-shift}
 use Rattle.laws.proofs.Counts.{bytes-same}
 use Rattle.preservation.proofs.Steps.{kept}
-use Rattle.fairness.specs.Run.{Event, deedOf, deed, isTick, isZero, accepted, readyAt, readySet, sameSet, sumTurns, chargedTo, chargedRank}
+use Rattle.fairness.specs.Run.{Event, endOf, deedOf, deed, isTick, isZero, accepted, readyAt, readySet, sameSet, sumTurns, chargedTo, chargedRank}
 use Rattle.fairness.specs.Fair.{ByRules, refused, served, RunFrom, moves, steady, Fairness}
 use Rattle.fairness.proofs.Keeps.{Same}
 use Rattle.fairness.proofs.Operations.{Effect, ticks, keeps, does}
-use Rattle.fairness.proofs.Rank.{turns, Fare, no-fare, fares, whole-round, same-turns}
+use Rattle.fairness.proofs.Rank.{turns, Fare, no-fare, fares, whole-rounds, same-turns}
 use Rattle.fairness.proofs.View.{cell, view, view-in, member-place, good}
 use Rattle.fairness.proofs.Ticks.{still, tick-fare}
 
@@ -49,7 +49,7 @@ bit-eq false true e = absurd (omega arith)
 bit-eq false false e = refl
 
 -- the same ready set, thread by thread
-same-set : (p : ℕ) (e : Event) → sameSet p e ≡ true → (i : ℕ) → readyAt p (e .after) i ≡ readyAt p (e .before) i
+pub same-set : (p : ℕ) (e : Event) → sameSet p e ≡ true → (i : ℕ) → readyAt p (e .after) i ≡ readyAt p (e .before) i
 same-set p e h i = bit-eq _ _ (
     sym (List·getD-map (λ t. bit (inLine (ready p) t)) (e .after .threads) i free)
     ∙ ap (λ l. getD l i 0) (bytes-same (readySet p (e .after)) (readySet p (e .before)) .0 h)
@@ -70,17 +70,12 @@ event-fare p n e σ below (served q a c k) h i m =
 cell-turn : (p : ℕ) (t : Thread) → cell p t .turn ≡ (if inLine (ready p) t then t .turn else 0)
 cell-turn p t = elim (test (inLine (ready p) t)) [ is m ↦ rw m | isnt m ↦ rw m ]
 
-sum-turns : (p : ℕ) (ts : List Thread) → sumTurns p ts ≡ turns (length ts) (view p ts)
+pub sum-turns : (p : ℕ) (ts : List Thread) → sumTurns p ts ≡ turns (length ts) (view p ts)
 unfolding turns view
 sum-turns p [] = refl
 sum-turns p (t ∷ ts) = omega (arith, sum-turns p ts, Σ-shift (length ts) (λ j. view p (t ∷ ts) j .turn), cell-turn p t)
 
 -- THE RUN
-
--- the state that events leave
-abbrev lastOf : State → List Event → State
-lastOf s [] = s
-lastOf s (e ∷ es) = lastOf (e .after) es
 
 -- what stands behind does not matter
 all-append : {A : Type 0} (f : A → Bool) (xs ys : List A) → all f (xs ++ ys) ≡ true → (all f xs ≡ true) × (all f ys ≡ true)
@@ -90,21 +85,21 @@ all-append f (x ∷ xs) ys h =
     let b = all-append f xs ys (a .1) in
     (and-both _ _ (a .0) (b .0), b .1)
 
-run-append : (s : State) (xs ys : List Event) → RunFrom s (xs ++ ys) → RunFrom s xs × RunFrom (lastOf s xs) ys
+pub run-append : (s : State) (xs ys : List Event) → RunFrom s (xs ++ ys) → RunFrom s xs × RunFrom (endOf s xs) ys
 run-append s [] ys h = (tt, h)
 run-append s (x ∷ xs) ys h = let a = run-append (x .after) xs ys (h .2) in ((h .0, h .1, a .0), a .1)
 
 -- a run from s: where it ends, and what is charged in it
-record Ran (p n i : ℕ) (s : State) (es : List Event) : Type 0 where
-  sound : Sound (lastOf s es)
-  same : (j : ℕ) → readyAt p (lastOf s es) j ≡ readyAt p s j
-  fare : Fare n i (view p (s .threads)) (view p (lastOf s es .threads)) (count (chargedRank p) es) (count (chargedTo i) es)
+pub record Ran (p n i : ℕ) (s : State) (es : List Event) : Type 0 where
+  pub sound : Sound (endOf s es)
+  pub same : (j : ℕ) → readyAt p (endOf s es) j ≡ readyAt p s j
+  pub fare : Fare n i (view p (s .threads)) (view p (endOf s es .threads)) (count (chargedRank p) es) (count (chargedTo i) es)
 
-event-sound : (e : Event) → ByRules e → Sound (e .before) → Sound (e .after)
+pub event-sound : (e : Event) → ByRules e → Sound (e .before) → Sound (e .after)
 event-sound e (refused a k) σ = rw k σ
 event-sound e (served q a c k) σ = rw k (kept (e .before) q σ)
 
-ran : (p n i : ℕ) (s : State) (es : List Event) → Sound s → ((j : ℕ) → readyAt p s j ≡ true → j < n) → readyAt p s i ≡ true
+pub ran : (p n i : ℕ) (s : State) (es : List Event) → Sound s → ((j : ℕ) → readyAt p s j ≡ true → j < n) → readyAt p s i ≡ true
     → RunFrom s es → all (steady p) es ≡ true → Ran p n i s es
 ran p n i s [] σ below m h k = record { sound = σ; same = λ j. refl; fare = no-fare n i (view p (s .threads)) }
 ran p n i s (e ∷ es) σ below m h k =
@@ -121,11 +116,11 @@ ran p n i s (e ∷ es) σ below m h k =
     }
 
 pub fairness : Fairness
-fairness p s before part behind σ h k w i m =
+fairness p rounds s before part behind σ h k w i m =
     let ts = s .threads in
     let n = length ts in
-    let u = lastOf s before in
-    let x = lastOf u part in
+    let u = endOf s before in
+    let x = endOf u part in
     let h₁ = run-append s before (part ++ behind) h in
     let k₁ = all-append (steady p) before (part ++ behind) k in
     let h₂ = run-append u part behind (h₁ .1) in
@@ -136,7 +131,7 @@ fairness p s before part behind σ h k w i m =
     let m₁ : readyAt p u i ≡ true = a .same i ∙ m in
     let r : Ran p n i u part = ran p n i u part (a .sound) c m₁ (h₂ .0) (k₂ .0) in
     let d : (j : ℕ) → readyAt p x j ≡ true → j < n = λ j l. c j (sym (r .same j) ∙ l) in
-    let full : count (chargedRank p) part ≡ turns n (view p (u .threads)) = w ∙ sum-turns p ts ∙ sym (same-turns n (view p ts) (view p (u .threads)) (a .fare .turn)) in
-    whole-round n _ _ i _ (view p (u .threads)) (view p (x .threads)) (good p n u (a .sound) c) (good p n x (r .sound) d)
-    (member-place p u (a .sound) i m₁) (member-place p x (r .sound) i (r .same i ∙ m₁)) (rw full at (r .fare))
-    ∙ a .fare .turn i ∙ ap (λ z. z .turn) (view-in p ts i m)
+    let full : count (chargedRank p) part ≡ rounds * turns n (view p (u .threads)) = w ∙ ap (λ x. rounds * x) (sum-turns p ts ∙ sym (same-turns n (view p ts) (view p (u .threads)) (a .fare .turn))) in
+    whole-rounds rounds n _ _ i _ (view p (u .threads)) (view p (x .threads)) (good p n u (a .sound) c) (good p n x (r .sound) d)
+    (member-place p u (a .sound) i m₁) (member-place p x (r .sound) i (r .same i ∙ m₁)) (rw full at (r .fare)) .0
+    ∙ ap (λ x. rounds * x) (a .fare .turn i ∙ ap (λ z. z .turn) (view-in p ts i m))

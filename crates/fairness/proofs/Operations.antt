@@ -25,29 +25,7 @@ use Rattle.rules.specs.declared.Outcome as Outcomes
 use Rattle.rules.specs.declared.Outcome.the-variants.{Done, Failed}
 use Rattle.rules.specs.Steps.{step}
 use Rattle.rules.specs.declared.Request.{Request}
-use Rattle.rules.specs.declared.Request.the-variants.{
-  Yield,
-  Create,
-  Delete,
-  Set,
-  Suspend,
-  Resume,
-  Delay,
-  Cancel,
-  Send,
-  SendFromInterrupt,
-  Receive,
-  Make,
-  Drop,
-  Pend,
-  Abort,
-  Post,
-  PostFromInterrupt,
-  Lock,
-  Unlock,
-  Tick,
-  Outcome,
-}
+use Rattle.rules.specs.declared.Request.the-variants as Ask
 use Rattle.rules.specs.declared.Answer.{Answer}
 use Rattle.laws.proofs.Split.{is, isnt, test, clash, and-true, or-false, if-case}
 use Rattle.laws.proofs.Lines.{same-eq, line-filled, waiting-out, unready-out, free-out, suspended-out}
@@ -216,7 +194,7 @@ yield-done s = if-case (λ (r : Step). isZero (codeOf (r .answer)) ≡ true) (lt
 
 -- a request is a tick, or keeps the rank
 pub data Does (p : ℕ) (s : State) (q : Request) : Type 0 where
-  ticks : q ≡ Tick → Does p s q
+  ticks : q ≡ Ask.Tick → Does p s q
   keeps : isTick (deedOf q) ≡ false → Effect p s (step s q) → Does p s q
 
 ruleset ranks = (effect-if, untouched, settled, gone, stops, blocks, keeps-refl, keeps-move, keeps-off, keeps-serve, keeps-delivered, keeps-emptied, free-out, unready-out, waiting-out, suspended-out, delaying-waits, pending-waits, unlocked, or-right, not-false)
@@ -224,24 +202,24 @@ ruleset ranks = (effect-if, untouched, settled, gone, stops, blocks, keeps-refl,
 pub does : (p : ℕ) (s : State) (q : Request) → isZero (codeOf (step s q .answer)) && moves p s (deedOf q) ≡ false → Does p s q
 unfolding step doYield doCreate doDelete doSuspend doResume doDelay breakOff doCancel endWait block mustWait doSend doSendFromInterrupt doReceive doMake doDrop doPend doAbort posted doPost
     doPostFromInterrupt doLock doUnlock doOutcome
-does p s Yield h = let o : eqb (s .lock) 0 && inLine (ready p) (caller s) ≡ false = rw (yield-done s) at h in keeps refl (search ranks depth 12)
-does p s (Create i r n) h = keeps refl (search ranks depth 12)
-does p s (Delete i) h = keeps refl (search ranks depth 12)
-does p s (Set i r n) h = keeps refl (sets p s i r n h)
-does p s (Suspend i) h = keeps refl (search ranks depth 12)
-does p s (Resume i) h = keeps refl (search ranks depth 12)
-does p s (Delay n) h = keeps refl (search ranks depth 12)
-does p s (Cancel i) h = keeps refl (search ranks depth 12)
-does p s (Send i n x) h = keeps refl (search ranks depth 12)
-does p s (SendFromInterrupt i x) h = keeps refl (search ranks depth 12)
-does p s (Receive n) h = keeps refl (search ranks depth 12)
-does p s (Make k n) h = keeps refl (search ranks depth 12)
-does p s (Drop k) h = keeps refl (search ranks depth 12)
-does p s (Pend k n) h = keeps refl (search ranks depth 12)
-does p s (Abort i) h = keeps refl (search ranks depth 12)
-does p s (Post k n) h = keeps refl (search ranks depth 12)
-does p s (PostFromInterrupt k n) h = keeps refl (search ranks depth 12)
-does p s Lock h = keeps refl (search ranks depth 12)
-does p s Unlock h = keeps refl (search ranks depth 12)
-does p s Tick h = ticks refl
-does p s (Outcome i) h = keeps refl (search ranks depth 12)
+does p s Ask.Yield h = let o : eqb (s .lock) 0 && inLine (ready p) (caller s) ≡ false = rw (yield-done s) at h in keeps refl (search ranks depth 12)
+does p s (Ask.Create i r n) h = keeps refl (search ranks depth 12)
+does p s (Ask.Delete i) h = keeps refl (search ranks depth 12)
+does p s (Ask.Set i r n) h = keeps refl (sets p s i r n h)
+does p s (Ask.Suspend i) h = keeps refl (search ranks depth 12)
+does p s (Ask.Resume i) h = keeps refl (search ranks depth 12)
+does p s (Ask.Delay n) h = keeps refl (search ranks depth 12)
+does p s (Ask.Cancel i) h = keeps refl (search ranks depth 12)
+does p s (Ask.Send i n x) h = keeps refl (search ranks depth 12)
+does p s (Ask.SendFromInterrupt i x) h = keeps refl (search ranks depth 12)
+does p s (Ask.Receive n) h = keeps refl (search ranks depth 12)
+does p s (Ask.Make k n) h = keeps refl (search ranks depth 12)
+does p s (Ask.Drop k) h = keeps refl (search ranks depth 12)
+does p s (Ask.Pend k n) h = keeps refl (search ranks depth 12)
+does p s (Ask.Abort i) h = keeps refl (search ranks depth 12)
+does p s (Ask.Post k n) h = keeps refl (search ranks depth 12)
+does p s (Ask.PostFromInterrupt k n) h = keeps refl (search ranks depth 12)
+does p s Ask.Lock h = keeps refl (search ranks depth 12)
+does p s Ask.Unlock h = keeps refl (search ranks depth 12)
+does p s Ask.Tick h = ticks refl
+does p s (Ask.Outcome i) h = keeps refl (search ranks depth 12)

@@ -3,7 +3,7 @@
 -- comes to 0 begins again at the sum of the turns. Assumes nothing.
 use mathlib.Core.Path.{_≡_, refl, ap, sym, _∙_}
 use mathlib.Core.Logic.{_≢_}
-use Prim.Native.Nat.{ℕ, zero, suc, pred, _+_, _≤_, _<_}
+use Prim.Native.Nat.{ℕ, zero, suc, pred, _+_, _*_, _≤_, _<_}
 use native.Mathlib.Omega.{arith}
 use native.Mathlib.Decide.{ℕ-discrete, decLe}
 use lib.Dec.{leb, eqb}
@@ -55,9 +55,26 @@ pub record Turns (N r : ℕ) (v v' : ℕ → Cell) : Type 0 where
   pub turns : (j : ℕ) → j ≢ r → v' j .turn ≡ v j .turn
 
 -- between two views the rank was charged m times, and its thread i c times
+abbrev Share : ℕ → ℕ → (ℕ → Cell) → (ℕ → Cell) → ℕ → ℕ → Type 0
+Share n i v v' m c = Spent (turns n v) (v i .turn) m c (due n v (v i .place)) (due n v' (v' i .place))
+
 pub record Fare (n i : ℕ) (v v' : ℕ → Cell) (m c : ℕ) : Type 0 where
-  pub share : Spent (turns n v) (v i .turn) m c (due n v (v i .place)) (due n v' (v' i .place))
+  pub share : Share n i v v' m c
   pub turn : (j : ℕ) → v' j .turn ≡ v j .turn
+
+-- a tick is charged to r: it is r's own, and another's to each other thread
+fare-of : {n : ℕ} {v v' : ℕ → Cell} (r : ℕ) → Share n r v v' 1 1 → ((i : ℕ) → i ≢ r → 1 ≤ v i .place → Share n i v v' 1 0)
+    → v' r .turn ≡ v r .turn → ((j : ℕ) → j ≢ r → v' j .turn ≡ v j .turn) → (i : ℕ) → 1 ≤ v i .place → Fare n i v v' 1 (bit (eqb r i))
+fare-of r own others t ts i h = record {
+  share = elim (ℕ-discrete i r) [
+    | yes e ↦ rw (e, eq-eqb r r refl) own
+    | no k ↦ rw (ne-eqb r i (λ q. k (sym q))) (others i k h)
+  ];
+  turn = λ j. elim (ℕ-discrete j r) [
+    | yes e ↦ rw e t
+    | no k ↦ ts j k
+  ];
+}
 
 part-in : (q : ℕ) (c : Cell) → c .place ≤ q → part q c ≡ c .counter
 part-in q c h = rw (le-leb (c .place) q h)
@@ -144,23 +161,14 @@ module _ {n N : ℕ} {v : ℕ → Cell} (g : Good n N v) where
       | no k ↦ ap (λ x. x .place) (c .rest i k)
     ]
 
-    goes-mine : Spent (turns n v) (v r .turn) 1 1 (due n v (v r .place)) (due n v' (v' r .place))
+    goes-mine : Share n r v v' 1 1
     goes-mine = rw (c .first, c .first') (mine (turns n v) (v r .turn) (due n v 1) (due n v' 1) (goes-due 1 (omega arith)) (omega (arith, due-first r (c .first), counter-le r)))
 
-    goes-theirs : (i : ℕ) → i ≢ r → 1 ≤ v i .place → Spent (turns n v) (v i .turn) 1 0 (due n v (v i .place)) (due n v' (v' i .place))
+    goes-theirs : (i : ℕ) → i ≢ r → 1 ≤ v i .place → Share n i v v' 1 0
     goes-theirs i k h = rw (goes-place i) (theirs (turns n v) (v i .turn) _ _ (goes-due (v i .place) h) (due-later i r (c .first) k h))
 
     pub goes-fare : (i : ℕ) → 1 ≤ v i .place → Fare n i v v' 1 (bit (eqb r i))
-    goes-fare i h = record {
-      share = elim (ℕ-discrete i r) [
-        | yes e ↦ rw (e, eq-eqb r r refl) goes-mine
-        | no k ↦ rw (ne-eqb r i (λ q. k (sym q))) (goes-theirs i k h)
-      ];
-      turn = λ j. elim (ℕ-discrete j r) [
-        | yes e ↦ rw e (c .turn)
-        | no k ↦ ap (λ x. x .turn) (c .rest j k)
-      ];
-    }
+    goes-fare = fare-of r goes-mine goes-theirs (c .turn) (λ j k. ap (λ x. x .turn) (c .rest j k))
 
   -- A TICK, AND THE FIRST GOES TO THE TAIL
   module _ {v' : ℕ → Cell} {r : ℕ} (c : Turns N r v v') where
@@ -193,23 +201,14 @@ module _ {n N : ℕ} {v : ℕ → Cell} (g : Good n N v) where
     unfolding due turns
     all-due = rw (c .tail) (Σ-ext n (λ j. part N (v' j)) (λ j. v j .turn) (λ j l. all-in j))
 
-    turns-mine : Spent (turns n v) (v r .turn) 1 1 (due n v (v r .place)) (due n v' (v' r .place))
+    turns-mine : Share n r v v' 1 1
     turns-mine = last (turns n v) (v r .turn) _ _ (rw (c .first) (due-first r (c .first) ∙ c .one)) all-due (omega (arith, g .head r (c .first))) (turn-le r (omega (arith, c .first)))
 
-    turns-theirs : (i : ℕ) → i ≢ r → 1 ≤ v i .place → Spent (turns n v) (v i .turn) 1 0 (due n v (v i .place)) (due n v' (v' i .place))
+    turns-theirs : (i : ℕ) → i ≢ r → 1 ≤ v i .place → Share n i v v' 1 0
     turns-theirs i k h = theirs (turns n v) (v i .turn) _ _ (turns-due i k h) (due-later i r (c .first) k h)
 
     pub turns-fare : (i : ℕ) → 1 ≤ v i .place → Fare n i v v' 1 (bit (eqb r i))
-    turns-fare i h = record {
-      share = elim (ℕ-discrete i r) [
-        | yes e ↦ rw (e, eq-eqb r r refl) turns-mine
-        | no k ↦ rw (ne-eqb r i (λ q. k (sym q))) (turns-theirs i k h)
-      ];
-      turn = λ j. elim (ℕ-discrete j r) [
-        | yes e ↦ rw e (c .turn)
-        | no k ↦ c .turns j k
-      ];
-    }
+    turns-fare = fare-of r turns-mine turns-theirs (c .turn) (c .turns)
 
 pub no-fare : (n i : ℕ) (v : ℕ → Cell) → Fare n i v v 0 0
 no-fare n i v = record { share = nothing (turns n v) (v i .turn) (due n v (v i .place)); turn = λ j. refl }
@@ -224,6 +223,8 @@ fares n i v v' v'' m c m' c' a b = record {
   turn = λ j. b .turn j ∙ a .turn j;
 }
 
--- a window of exactly as many ticks as the turns sum to
-pub whole-round : (n N N' i c : ℕ) (v v' : ℕ → Cell) → Good n N v → Good n N' v' → 1 ≤ v i .place → 1 ≤ v' i .place → Fare n i v v' (turns n v) c → c ≡ v i .turn
-whole-round n N N' i c v v' g g' h h' a = fair _ _ _ _ _ (a .share) (due-pos g i h) (due-le g (v i .place)) (due-pos g' i h') (omega (arith, due-le g' (v' i .place), same-turns n v v' (a .turn)))
+-- a window of k times as many ticks as the turns sum to: k turns are charged, and the due is as it was
+pub whole-rounds : (k n N N' i c : ℕ) (v v' : ℕ → Cell) → Good n N v → Good n N' v' → 1 ≤ v i .place → 1 ≤ v' i .place → Fare n i v v' (k * turns n v) c
+    → (c ≡ k * v i .turn) × (due n v' (v' i .place) ≡ due n v (v i .place))
+whole-rounds k n N N' i c v v' g g' h h' a =
+    fair k _ _ _ _ _ (a .share) (due-pos g i h) (due-le g (v i .place)) (due-pos g' i h') (omega (arith, due-le g' (v' i .place), same-turns n v v' (a .turn)))

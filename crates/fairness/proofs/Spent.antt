@@ -35,11 +35,18 @@ mine R t d d' e h = record { w = 0; whole = omega arith; own = omega arith }
 pub last : (R t d d' : ℕ) → d ≡ 1 → d' ≡ R → 1 ≤ t → t ≤ R → Spent R t 1 1 d d'
 last R t d d' e e' h l = record { w = 1; whole = omega arith; own = omega arith }
 
--- a window of exactly R ticks
-pub fair : (R t c d d' : ℕ) → Spent R t R c d d' → 1 ≤ d → d ≤ R → 1 ≤ d' → d' ≤ R → c ≡ t
-fair R t c d d' a h₁ h₂ h₃ h₄ = go (a .w) (a .whole) (a .own)
+-- a window of exactly k rounds of R ticks: the due comes round k times, and is as it was
+rounds : (R d d' : ℕ) → 1 ≤ d → d ≤ R → 1 ≤ d' → d' ≤ R → (k w : ℕ) → k * R + d' ≡ d + w * R → (w ≡ k) × (d' ≡ d)
+rounds R d d' h₁ h₂ h₃ h₄ zero zero p = (omega arith, omega arith)
+rounds R d d' h₁ h₂ h₃ h₄ zero (suc w) p = absurd (omega arith)
+rounds R d d' h₁ h₂ h₃ h₄ (suc k) zero p = absurd (omega arith)
+rounds R d d' h₁ h₂ h₃ h₄ (suc k) (suc w) p = let x = rounds R d d' h₁ h₂ h₃ h₄ k w (omega arith) in (omega (arith, x .0), x .1)
+
+-- and k of the thread's turns are charged
+pub fair : (k R t c d d' : ℕ) → Spent R t (k * R) c d d' → 1 ≤ d → d ≤ R → 1 ≤ d' → d' ≤ R → (c ≡ k * t) × (d' ≡ d)
+fair k R t c d d' a h₁ h₂ h₃ h₄ =
+    let x = rounds R d d' h₁ h₂ h₃ h₄ k (a .w) (a .whole) in
+    (spent (a .w) (x .0) (x .1) (a .own), x .1)
   where
-    go : (w : ℕ) → R + d' ≡ d + w * R → c + min d' t ≡ min d t + w * t → c ≡ t
-    go zero p q = omega arith
-    go (suc zero) p q = omega arith
-    go (suc (suc w)) p q = omega arith
+    spent : (w : ℕ) → w ≡ k → d' ≡ d → c + min d' t ≡ min d t + w * t → c ≡ k * t
+    spent w e f q = omega (arith, rw e at q)

@@ -38,7 +38,7 @@ unfolding view
 view-out p ts j m = rw m
 
 -- a cell with a place is a member's
-placed-in : (p : ℕ) (ts : List Thread) (j : ℕ) → 1 ≤ view p ts j .place → inLine (ready p) (at ts j) ≡ true
+pub placed-in : (p : ℕ) (ts : List Thread) (j : ℕ) → 1 ≤ view p ts j .place → inLine (ready p) (at ts j) ≡ true
 placed-in p ts j h = elim (test (inLine (ready p) (at ts j))) [
   | is m ↦ m
   | isnt m ↦ absurd (omega (arith, ap (λ c. c .place) (view-out p ts j m)))

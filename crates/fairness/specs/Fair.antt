@@ -2,7 +2,7 @@
 use mathlib.Core.Bool.{Bool, true, false, not, _&&_}
 use mathlib.Core.Path.{_≡_}
 use mathlib.Core.List.{List, [], _∷_, _++_}
-use Prim.Native.Nat.{ℕ}
+use Prim.Native.Nat.{ℕ, _*_}
 use lib.Dec.{eqb}
 use Rattle.rules.specs.Basic.{count, all}
 use Rattle.rules.specs.State.{State, at}
@@ -11,7 +11,7 @@ use Rattle.rules.specs.Answers.{codeOf}
 use Rattle.rules.specs.Steps.{step}
 use Rattle.rules.specs.declared.Request.{Request}
 use Rattle.rules.specs.declared.Decoded.the-variants.{Asked}
-use Rattle.fairness.specs.Run.{Event, Deed, tick, yield, other, change, deed, accepted, readyAt, sameSet, sumTurns, chargedTo, chargedRank}
+use Rattle.fairness.specs.Run.{Event, Deed, tick, yield, other, change, create, deed, accepted, readyAt, sameSet, sumTurns, chargedTo, chargedRank}
 
 -- an event by the rules: it is refused and leaves the state as it is, or it is what `step` says
 pub data ByRules (e : Event) : Type 0 where
@@ -28,17 +28,18 @@ abbrev pub moves : ℕ → State → Deed → Bool
 moves p s tick = false
 moves p s yield = eqb (s .lock) 0 && readyAt p s (s .running)
 moves p s (change i) = readyAt p s i
+moves p s (create i) = false
 moves p s other = false
 
 -- the rank's ready set stays the same, and none of its threads moves by itself
 abbrev pub steady : ℕ → Event → Bool
 steady p e = sameSet p e && not (accepted e && moves p (e .before) (deed (e .asked)))
 
--- In every unbroken part of a steady run, where the ticks charged to the rank are as many as the turns of its ready threads sum to, each
--- of these threads is charged exactly its turn.
+-- In every unbroken part of a steady run, where the ticks charged to the rank are k times as many as the turns of its ready threads sum to,
+-- each of these threads is charged exactly k times its turn.
 abbrev pub Fairness : Type 0
 Fairness =
-    (p : ℕ) (s : State) (before part behind : List Event)
+    (p k : ℕ) (s : State) (before part behind : List Event)
     → Sound s → RunFrom s (before ++ (part ++ behind)) → all (steady p) (before ++ (part ++ behind)) ≡ true
-    → count (chargedRank p) part ≡ sumTurns p (s .threads)
-    → (i : ℕ) → readyAt p s i ≡ true → count (chargedTo i) part ≡ at (s .threads) i .turn
+    → count (chargedRank p) part ≡ k * sumTurns p (s .threads)
+    → (i : ℕ) → readyAt p s i ≡ true → count (chargedTo i) part ≡ k * at (s .threads) i .turn

@@ -10,29 +10,7 @@ use Rattle.rules.specs.State.{State, at}
 use Rattle.rules.specs.Lines.{ready, inLine}
 use Rattle.rules.specs.declared.Thread.{Thread}
 use Rattle.rules.specs.declared.Request.{Request}
-use Rattle.rules.specs.declared.Request.the-variants.{
-  Yield,
-  Create,
-  Delete,
-  Set,
-  Suspend,
-  Resume,
-  Delay,
-  Cancel,
-  Send,
-  SendFromInterrupt,
-  Receive,
-  Make,
-  Drop,
-  Pend,
-  Abort,
-  Post,
-  PostFromInterrupt,
-  Lock,
-  Unlock,
-  Tick,
-  Outcome,
-}
+use Rattle.rules.specs.declared.Request.the-variants as Ask
 use Rattle.rules.specs.declared.Decoded.{Decoded}
 use Rattle.rules.specs.declared.Decoded.the-variants.{Asked, Bad}
 
@@ -43,35 +21,40 @@ pub record Event : Type 0 where
   pub code : ℤ
   pub after : State
 
+-- the state that events leave
+abbrev pub endOf : State → List Event → State
+endOf s [] = s
+endOf s (e ∷ es) = endOf (e .after) es
+
 -- WHAT IS ASKED, as far as the demand tells requests apart
 
--- `change i` is a change of the settings of thread i
+-- `change i` is a change of the settings of thread i, and `create i` its creation
 pub data Deed : Type 0 where
   tick yield other : Deed
-  change : ℕ → Deed
+  change create : ℕ → Deed
 
 abbrev pub deedOf : Request → Deed
-deedOf Yield = yield
-deedOf (Create i p n) = other
-deedOf (Delete i) = other
-deedOf (Set i p n) = change i
-deedOf (Suspend i) = other
-deedOf (Resume i) = other
-deedOf (Delay n) = other
-deedOf (Cancel i) = other
-deedOf (Send i n x) = other
-deedOf (SendFromInterrupt i x) = other
-deedOf (Receive n) = other
-deedOf (Make k n) = other
-deedOf (Drop k) = other
-deedOf (Pend k n) = other
-deedOf (Abort i) = other
-deedOf (Post k n) = other
-deedOf (PostFromInterrupt k n) = other
-deedOf Lock = other
-deedOf Unlock = other
-deedOf Tick = tick
-deedOf (Outcome i) = other
+deedOf Ask.Yield = yield
+deedOf (Ask.Create i p n) = create i
+deedOf (Ask.Delete i) = other
+deedOf (Ask.Set i p n) = change i
+deedOf (Ask.Suspend i) = other
+deedOf (Ask.Resume i) = other
+deedOf (Ask.Delay n) = other
+deedOf (Ask.Cancel i) = other
+deedOf (Ask.Send i n x) = other
+deedOf (Ask.SendFromInterrupt i x) = other
+deedOf (Ask.Receive n) = other
+deedOf (Ask.Make k n) = other
+deedOf (Ask.Drop k) = other
+deedOf (Ask.Pend k n) = other
+deedOf (Ask.Abort i) = other
+deedOf (Ask.Post k n) = other
+deedOf (Ask.PostFromInterrupt k n) = other
+deedOf Ask.Lock = other
+deedOf Ask.Unlock = other
+deedOf Ask.Tick = tick
+deedOf (Ask.Outcome i) = other
 
 -- a record that asks nothing is no such deed
 abbrev pub deed : Decoded → Deed
@@ -83,6 +66,7 @@ isTick tick = true
 isTick yield = false
 isTick other = false
 isTick (change i) = false
+isTick (create i) = false
 
 -- "accepted": a tick, a yield and a change of settings answer 0 unless they are refused
 abbrev pub isZero : ℤ → Bool
@@ -132,6 +116,7 @@ abbrev pub disturbs : ℕ → State → Deed → Bool
 disturbs p s tick = false
 disturbs p s yield = readyAt p s (s .running)
 disturbs p s (change i) = readyAt p s i
+disturbs p s (create i) = false
 disturbs p s other = false
 
 -- "none of them yields and none is named in an accepted change of settings"

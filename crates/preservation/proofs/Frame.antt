@@ -22,29 +22,7 @@ use Rattle.rules.specs.declared.Sem.{Sem}
 use Rattle.rules.specs.declared.Outcome as Outcomes
 use Rattle.rules.specs.declared.Answer.{Answer}
 use Rattle.rules.specs.declared.Request.{Request}
-use Rattle.rules.specs.declared.Request.the-variants.{
-  Yield,
-  Create,
-  Delete,
-  Set,
-  Suspend,
-  Resume,
-  Delay,
-  Cancel,
-  Send,
-  SendFromInterrupt,
-  Receive,
-  Make,
-  Drop,
-  Pend,
-  Abort,
-  Post,
-  PostFromInterrupt,
-  Lock,
-  Unlock,
-  Tick,
-  Outcome,
-}
+use Rattle.rules.specs.declared.Request.the-variants as Ask
 use Rattle.laws.proofs.Split.{if-case}
 use Rattle.laws.proofs.Members.{length-edit}
 use Rattle.laws.proofs.Moves.{length-move}
@@ -127,27 +105,27 @@ ruleset firm = (long-same, long-if, long-move, long-edit, long-serve, long-timeo
 
 firm-step : (s : State) (q : Request) → Firm s (step s q)
 unfolding step endWait block mustWait doYield doCreate deleted doDelete doSet doSuspend doResume doDelay breakOff doCancel delivered doSend doSendFromInterrupt emptied doReceive doMake doDrop doPend doAbort posted doPost doPostFromInterrupt charge charged doLock doUnlock doTick doOutcome
-firm-step s Yield = search firm depth 10
-firm-step s (Create i p n) = search firm depth 10
-firm-step s (Delete i) = search firm depth 10
-firm-step s (Set i p n) = search firm depth 10
-firm-step s (Suspend i) = search firm depth 10
-firm-step s (Resume i) = search firm depth 10
-firm-step s (Delay n) = search firm depth 10
-firm-step s (Cancel i) = search firm depth 10
-firm-step s (Send i n x) = search firm depth 10
-firm-step s (SendFromInterrupt i x) = search firm depth 10
-firm-step s (Receive n) = search firm depth 10
-firm-step s (Make k n) = search firm depth 10
-firm-step s (Drop k) = search firm depth 10
-firm-step s (Pend k n) = search firm depth 10
-firm-step s (Abort i) = search firm depth 10
-firm-step s (Post k n) = search firm depth 10
-firm-step s (PostFromInterrupt k n) = search firm depth 10
-firm-step s Lock = search firm depth 10
-firm-step s Unlock = search firm depth 10
-firm-step s Tick = search firm depth 10
-firm-step s (Outcome i) = search firm depth 10
+firm-step s Ask.Yield = search firm depth 10
+firm-step s (Ask.Create i p n) = search firm depth 10
+firm-step s (Ask.Delete i) = search firm depth 10
+firm-step s (Ask.Set i p n) = search firm depth 10
+firm-step s (Ask.Suspend i) = search firm depth 10
+firm-step s (Ask.Resume i) = search firm depth 10
+firm-step s (Ask.Delay n) = search firm depth 10
+firm-step s (Ask.Cancel i) = search firm depth 10
+firm-step s (Ask.Send i n x) = search firm depth 10
+firm-step s (Ask.SendFromInterrupt i x) = search firm depth 10
+firm-step s (Ask.Receive n) = search firm depth 10
+firm-step s (Ask.Make k n) = search firm depth 10
+firm-step s (Ask.Drop k) = search firm depth 10
+firm-step s (Ask.Pend k n) = search firm depth 10
+firm-step s (Ask.Abort i) = search firm depth 10
+firm-step s (Ask.Post k n) = search firm depth 10
+firm-step s (Ask.PostFromInterrupt k n) = search firm depth 10
+firm-step s Ask.Lock = search firm depth 10
+firm-step s Ask.Unlock = search firm depth 10
+firm-step s Ask.Tick = search firm depth 10
+firm-step s (Ask.Outcome i) = search firm depth 10
 
 -- a step neither adds nor takes away a record
 pub on-kept : (b : Board) (s : State) (q : Request) → On b s → On b (step s q .state)

@@ -15,7 +15,8 @@ use Rattle.rules.specs.declared.Thread.{Thread}
 use Rattle.laws.proofs.Split.{is, isnt, test, and-true, and-both}
 use Rattle.laws.proofs.Tested.{tested-table}
 use Rattle.fairness.specs.Run.{Event, chargedTo}
-use Rattle.promises.specs.Demand3.{Door, FairDoor}
+use Rattle.fairness.specs.Doors.{Door}
+use Rattle.promises.specs.Demand3.{FairDoor}
 use Rattle.promises.specs.Figures.{Run, sharesFrom, figures, premises, ownTurns}
 
 -- the shares of threads i and on

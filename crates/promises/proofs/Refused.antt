@@ -2,9 +2,8 @@
 -- ladder of tests in the order of the first table, and each test is the second table's condition. Assumes nothing.
 use mathlib.Core.Bool.{Bool, true, false, not, _&&_, _||_}
 use mathlib.Core.Path.{_≡_, refl}
-use mathlib.Core.List.{List, [], _∷_}
 use mathlib.Core.Option.{Option, none, some}
-use Prim.Native.Nat.{ℕ, _+_}
+use Prim.Native.Nat.{ℕ}
 use native.Mathlib.Omega.{arith}
 use native.Mathlib.Decide.{ℕ-discrete}
 use lib.Dec.{eqb, leb, ltb}
@@ -21,11 +20,11 @@ use Rattle.rules.specs.Steps.{step}
 use Rattle.rules.specs.declared.Wait.{Wait}
 use Rattle.rules.specs.declared.Outcome as Outcome
 use Rattle.rules.specs.declared.Refusal.{Refusal}
-use Rattle.rules.specs.declared.Refusal.the-variants.{BadThread, BadPriority, BadTicks, BadState, BadOperation, BadSemaphore}
+use Rattle.rules.specs.declared.Refusal.the-variants.{BadOperation, BadSemaphore}
 use Rattle.rules.specs.declared.Request.{Request}
-use Rattle.rules.specs.declared.Request.the-variants.{Yield, Create, Delete, Set, Suspend, Resume, Delay, Cancel, Send, SendFromInterrupt, Receive, Make, Drop, Pend, Abort, Post, PostFromInterrupt, Lock, Unlock, Tick, Outcome}
-use Rattle.laws.proofs.Split.{Is, is, isnt, test, clash, if-case}
-use Rattle.promises.specs.Refusals.{given, order, firstGiven, refusal, refusalIn, locked, cannotWait}
+use Rattle.rules.specs.declared.Request.the-variants as Ask
+use Rattle.laws.proofs.Split.{is, isnt, test, if-case}
+use Rattle.promises.specs.Refusals.{firstGiven, refusal, refusalIn, locked, cannotWait}
 
 -- a step answers one refusal or none, and leaves the state where it refuses
 pub record Says (s : State) (why : Option Refusal) (r : Step) : Type 0 where
@@ -122,7 +121,7 @@ outcome-none Outcome.the-variants.Failed x = refl
 
 -- EACH OPERATION
 
-posts : (s : State) (k n : ℕ) → Says s (refusal s (PostFromInterrupt k n)) (doPostFromInterrupt s k n)
+posts : (s : State) (k n : ℕ) → Says s (refusal s (Ask.PostFromInterrupt k n)) (doPostFromInterrupt s k n)
 unfolding refusal firstGiven doPostFromInterrupt doPost
 posts s k n = elim (test (noSem s k)) [
   | is e ↦ rw (sem-free s k, e) (refuses s BadSemaphore)
@@ -137,24 +136,24 @@ posts s k n = elim (test (noSem s k)) [
 
 pub says : (s : State) (q : Request) → Says s (refusal s q) (step s q)
 unfolding refusal firstGiven step doYield doCreate doDelete doSet doSuspend doResume doDelay doCancel breakOff doSend doSendFromInterrupt doReceive doMake doDrop doPend doAbort doPost doPostFromInterrupt doLock doUnlock doTick doOutcome block
-says s Yield = if-case (Says s none) (ltb 0 (s .lock)) (λ e. accepts s _ refl) (λ e. accepts s _ refl)
-says s (Create i p n) = search (rung, accepts) depth 8
-says s (Delete i) = search (rung, accepts, thread-free, bound-is) depth 8
-says s (Set i p n) = search (rung, split, accepts, thread-free) depth 8
-says s (Suspend i) = search (rung, split, accepts, thread-free, bound-is) depth 8
-says s (Resume i) = search (rung, split, accepts, thread-free) depth 8
-says s (Delay n) = search (rung, accepts, may-not) depth 8
-says s (Cancel i) = search (rung, accepts, thread-free) depth 8
-says s (Send i n x) = search (rung, either, must-if, thread-free) depth 8
-says s (SendFromInterrupt i x) = search (rung, accepts, thread-free, locked-or) depth 8
-says s (Receive n) = search must-unless depth 8
-says s (Make k n) = search (rung, accepts) depth 8
-says s (Drop k) = search (rung, accepts, sem-free) depth 8
-says s (Pend k n) = search (rung, must-unless, sem-free, zero-is) depth 8
-says s (Abort i) = search (rung, accepts, thread-free) depth 8
-says s (Post k n) = search (rung, accepts, sem-free) depth 8
-says s (PostFromInterrupt k n) = posts s k n
-says s Lock = search (rung, accepts) depth 8
-says s Unlock = search (rung, accepts) depth 8
-says s Tick = accepts s _ refl
-says s (Outcome i) = search (rung, accepts, thread-free, outcome-none) depth 8
+says s Ask.Yield = if-case (Says s none) (ltb 0 (s .lock)) (λ e. accepts s _ refl) (λ e. accepts s _ refl)
+says s (Ask.Create i p n) = search (rung, accepts) depth 8
+says s (Ask.Delete i) = search (rung, accepts, thread-free, bound-is) depth 8
+says s (Ask.Set i p n) = search (rung, split, accepts, thread-free) depth 8
+says s (Ask.Suspend i) = search (rung, split, accepts, thread-free, bound-is) depth 8
+says s (Ask.Resume i) = search (rung, split, accepts, thread-free) depth 8
+says s (Ask.Delay n) = search (rung, accepts, may-not) depth 8
+says s (Ask.Cancel i) = search (rung, accepts, thread-free) depth 8
+says s (Ask.Send i n x) = search (rung, either, must-if, thread-free) depth 8
+says s (Ask.SendFromInterrupt i x) = search (rung, accepts, thread-free, locked-or) depth 8
+says s (Ask.Receive n) = search must-unless depth 8
+says s (Ask.Make k n) = search (rung, accepts) depth 8
+says s (Ask.Drop k) = search (rung, accepts, sem-free) depth 8
+says s (Ask.Pend k n) = search (rung, must-unless, sem-free, zero-is) depth 8
+says s (Ask.Abort i) = search (rung, accepts, thread-free) depth 8
+says s (Ask.Post k n) = search (rung, accepts, sem-free) depth 8
+says s (Ask.PostFromInterrupt k n) = posts s k n
+says s Ask.Lock = search (rung, accepts) depth 8
+says s Ask.Unlock = search (rung, accepts) depth 8
+says s Ask.Tick = accepts s _ refl
+says s (Ask.Outcome i) = search (rung, accepts, thread-free, outcome-none) depth 8

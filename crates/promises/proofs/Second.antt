@@ -1,13 +1,11 @@
 -- Demand 2 holds: a call leaves a sound table as it is or makes of it the table of the request's step, a step keeps a state sound, and
 -- a state and its table determine each other. Assumes nothing.
-use mathlib.Core.Bool.{Bool, true, false, _&&_}
-use mathlib.Core.Path.{_≡_, refl, ap, sym, subst, _∙_}
+use mathlib.Core.Bool.{_&&_}
+use mathlib.Core.Path.{_≡_, refl, ap, sym, _∙_}
 use mathlib.Core.List.{List, [], _∷_}
 use Prim.Native.Nat.{ℕ}
 use lib.Dec.{eqb}
-use borrow.Author.Tests.{eq-eqb}
 use lib.ListN.{length}
-use Rattle.rules.specs.Basic.{if_then_else_}
 use Rattle.rules.specs.Board.{Board, printer}
 use Rattle.rules.specs.State.{State, On}
 use Rattle.rules.specs.Table.{encode, decode}
@@ -15,9 +13,8 @@ use Rattle.rules.specs.Answers.{areaLength}
 use Rattle.rules.specs.Requests.{decodeRequest}
 use Rattle.rules.specs.Sound.{Sound, SoundTable}
 use Rattle.rules.specs.Test.{soundTable}
-use Rattle.rules.specs.Waiting.{Step}
 use Rattle.rules.specs.Steps.{step}
-use Rattle.rules.specs.Door.{Doored, serveDecoded, door, freshTable, Handed, tableAfter}
+use Rattle.rules.specs.Door.{serveDecoded, door, freshTable, Handed, tableAfter}
 use Rattle.rules.specs.declared.Request.{Request}
 use Rattle.rules.specs.declared.Decoded.{Decoded}
 use Rattle.rules.specs.declared.Decoded.the-variants.{Asked, Bad}

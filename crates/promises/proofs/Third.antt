@@ -1,9 +1,10 @@
 -- Demand 3: a run through bytes and the door is a run by the rules on the states that the tables say, and there each thread is charged
--- its own turn. Assumes nothing.
+-- k turns in k rounds; one round is the demand's. Assumes nothing.
 use mathlib.Core.Bool.{Bool, true, false, not, _&&_}
 use mathlib.Core.Path.{_≡_, refl}
 use mathlib.Core.List.{List, [], _∷_, _++_}
 use Prim.Native.Nat.{ℕ}
+use native.Mathlib.Omega.{arith}
 use lib.Dec.{eqb}
 use borrow.Author.Tests.{not-true}
 use lib.ListN.{length, take, drop, take-append-drop}
@@ -20,10 +21,11 @@ use Rattle.rules.specs.declared.Decoded.the-variants.{Asked, Bad}
 use Rattle.laws.proofs.Split.{and-true, and-both, and-off, if-case}
 use Rattle.layout.proofs.RoundTrip.{on-decode, decode-encode}
 use Rattle.preservation.proofs.Frame.{on-kept}
-use Rattle.fairness.specs.Run.{Event, Deed, tick, yield, other, change, deed, accepted, readyAt, sameSet, disturbs, undisturbed}
+use Rattle.fairness.specs.Run.{Event, Deed, tick, yield, other, change, create, deed, accepted, readyAt, sameSet, disturbs, undisturbed}
+use Rattle.fairness.specs.Doors.{Door, eventOf, runOf}
 use Rattle.fairness.specs.Fair.{ByRules, refused, served, RunFrom, moves, steady}
 use Rattle.fairness.proofs.Fair.{fairness}
-use Rattle.promises.specs.Demand3.{eventOf, runOf, Demand3}
+use Rattle.promises.specs.Demand3.{FairDoor, Demand3, FairRounds, WholeRounds}
 
 -- NOBODY MOVES BY ITSELF
 
@@ -33,9 +35,10 @@ moves-not false p s k e = refl
 moves-not true p s tick e = refl
 moves-not true p s yield e = rw (not-true (readyAt p s (s .running)) e, and-off)
 moves-not true p s (change i) e = e
+moves-not true p s (create i) e = refl
 moves-not true p s other e = refl
 
-all-steady : (p : ℕ) (es : List Event) → all (sameSet p) es ≡ true → all (undisturbed p) es ≡ true → all (steady p) es ≡ true
+pub all-steady : (p : ℕ) (es : List Event) → all (sameSet p) es ≡ true → all (undisturbed p) es ≡ true → all (steady p) es ≡ true
 all-steady p [] h k = refl
 all-steady p (e ∷ es) h k =
     let a = and-true (sameSet p e) _ h in
@@ -55,14 +58,21 @@ opens b t h = if-case (λ r. ByRules (eventOf b t h r)) (eqb (length (h .area)) 
 
 -- THE RUN
 
-run-by-rules : (b : Board) (t : List ℕ) (hs : List Handed) → RunFrom (decode b t) (runOf b (door b) t hs)
+pub run-by-rules : (b : Board) (t : List ℕ) (hs : List Handed) → RunFrom (decode b t) (runOf b (door b) t hs)
 unfolding runOf
 run-by-rules b t [] = tt
 run-by-rules b t (h ∷ hs) = (refl, opens b t h, run-by-rules b (door b t (h .request) (h .area) .table) hs)
 
-pub demand3 : Demand3
-demand3 b t hs p from steps σ same quiet full i m =
+pub whole-rounds : WholeRounds
+whole-rounds b t hs p from steps σ same quiet k full i m =
     let run = runOf b (door b) t hs in
     let rest = drop from run in
     let parts : take from run ++ (take steps rest ++ drop steps rest) ≡ run = rw (take-append-drop steps rest, take-append-drop from run) in
-    fairness p (decode b t) (take from run) (take steps rest) (drop steps rest) (σ .state) (rw parts (run-by-rules b t hs)) (rw parts (all-steady p run same quiet)) full i m
+    fairness p k (decode b t) (take from run) (take steps rest) (drop steps rest) (σ .state) (rw parts (run-by-rules b t hs)) (rw parts (all-steady p run same quiet)) full i m
+
+-- one round, by any door
+pub one-round : (b : Board) (d : Door) → FairRounds b d → FairDoor b d
+one-round b d fair t hs p from steps σ same quiet full i m = omega (arith, fair t hs p from steps σ same quiet 1 (omega (arith, full)) i m)
+
+pub demand3 : Demand3
+demand3 b = one-round b (door b) (whole-rounds b)

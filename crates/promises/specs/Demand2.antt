@@ -12,7 +12,6 @@ use Rattle.rules.specs.Table.{encode, decode}
 use Rattle.rules.specs.Answers.{areaLength}
 use Rattle.rules.specs.Requests.{decodeRequest}
 use Rattle.rules.specs.Sound.{SoundTable}
-use Rattle.rules.specs.Waiting.{Step}
 use Rattle.rules.specs.Steps.{step}
 use Rattle.rules.specs.Door.{Doored, answered, door, freshTable, Handed, tableAfter}
 use Rattle.rules.specs.declared.Request.{Request}

@@ -3,54 +3,56 @@
 -- break in, the scheduler may be locked): in every unbroken part of the run where the ticks charged to that rank equal the sum of the
 -- threads' turns, each thread was charged exactly its own turn. An accepted tick is charged to the thread that was running, to nobody
 -- while the lock is on; a refused one to nobody."
--- What the set, a turn and a charged tick are is said in the crate `fairness`, specs/Run.antt, of any run; here is which runs are meant.
+-- The crate `fairness` says what the set, a turn and a charged tick are, of any run (specs/Run.antt), and which runs are meant
+-- (specs/Doors.antt).
 use mathlib.Core.Bool.{true}
 use mathlib.Core.Path.{_≡_}
-use mathlib.Core.List.{List, [], _∷_}
-use Prim.Native.Nat.{ℕ}
+use mathlib.Core.List.{List}
+use Prim.Native.Nat.{ℕ, _*_}
 use lib.ListN.{take, drop}
 use Rattle.rules.specs.Basic.{count, all}
 use Rattle.rules.specs.Board.{Board}
-use Rattle.rules.specs.State.{at}
+use Rattle.rules.specs.State.{State, at}
 use Rattle.rules.specs.Table.{decode}
-use Rattle.rules.specs.Requests.{decodeRequest}
 use Rattle.rules.specs.Sound.{SoundTable}
-use Rattle.rules.specs.Door.{Doored, door, Handed}
+use Rattle.rules.specs.Door.{door, Handed}
 use Rattle.fairness.specs.Run.{Event, readyAt, sameSet, undisturbed, sumTurns, chargedTo, chargedRank}
+use Rattle.fairness.specs.Doors.{Door, runOf}
 
--- a door answers a table, a record and an area; the rules' is `door b`
-abbrev pub Door : Type 0
-Door = List ℕ → List ℕ → List ℕ → Doored
-
--- what is asked of table t, and what the door makes of it
-abbrev pub eventOf : Board → List ℕ → Handed → Doored → Event
-eventOf b t h r = record { before = decode b t; asked = decodeRequest (h .request); code = r .code; after = decode b (r .table) }
-
--- "any run of requests and ticks": any records and any answer areas, so that a request, a tick too, may be refused with −7 or −8;
--- each finds the table that the one before it leaves
-unfoldable pub runOf : Board → Door → List ℕ → List Handed → List Event
-runOf b d t [] = []
-runOf b d t (h ∷ hs) = let r = d t (h .request) (h .area) in eventOf b t h r ∷ runOf b d (r .table) hs
-
--- What the demand says of a door. Of an empty set it claims nothing, so that the set need not be said not to be empty.
-abbrev pub FairDoor : Board → Door → Type 0
-FairDoor b d =
+-- Where the demand speaks: a claim on a rank, the state at the start and a part of the run. Of an empty set it claims nothing, so that the
+-- set need not be said not to be empty.
+abbrev pub InEveryPart : Board → Door → (ℕ → State → List Event → Type 0) → Type 0
+InEveryPart b d Claim =
     (t : List ℕ) (hs : List Handed) (p : ℕ) (from steps : ℕ) →
-    let threads = decode b t .threads in
-    let run = runOf b d t hs in
-    -- "every unbroken part of the run"
-    let part = take steps (drop from run) in
     -- "from any sound table"
-    SoundTable b t
+    SoundTable b t →
+    -- "over any run of requests and ticks"
+    let run = runOf b d t hs in
     -- "is the same after each step"
-    → all (sameSet p) run ≡ true
+    all (sameSet p) run ≡ true
     -- "none of them yields and none is named in an accepted change of settings"
     → all (undisturbed p) run ≡ true
+    -- "in every unbroken part of the run"
+    → Claim p (decode b t) (take steps (drop from run))
+
+-- what the demand says of a door
+abbrev pub FairDoor : Board → Door → Type 0
+FairDoor b d = InEveryPart b d (λ p s part.
     -- "the ticks charged to that rank equal the sum of the threads' turns"
-    → count (chargedRank p) part ≡ sumTurns p threads
+    count (chargedRank p) part ≡ sumTurns p (s .threads)
     -- "each thread was charged exactly its own turn"
-    → (i : ℕ) → readyAt p (decode b t) i ≡ true → count (chargedTo i) part ≡ at threads i .turn
+    → (i : ℕ) → readyAt p s i ≡ true → count (chargedTo i) part ≡ at (s .threads) i .turn)
 
 -- on a board of any number of threads
 abbrev pub Demand3 : Type 0
 Demand3 = (b : Board) → FairDoor b (door b)
+
+-- THE SHARE. The demand speaks of one round; in k rounds each thread was charged k turns. So over whole rounds, of the ticks charged to the
+-- rank, a thread has its turn out of the sum of the turns.
+abbrev pub FairRounds : Board → Door → Type 0
+FairRounds b d = InEveryPart b d (λ p s part.
+    (k : ℕ) → count (chargedRank p) part ≡ k * sumTurns p (s .threads)
+    → (i : ℕ) → readyAt p s i ≡ true → count (chargedTo i) part ≡ k * at (s .threads) i .turn)
+
+abbrev pub WholeRounds : Type 0
+WholeRounds = (b : Board) → FairRounds b (door b)

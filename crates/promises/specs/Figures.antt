@@ -15,7 +15,7 @@ use Rattle.rules.specs.declared.Thread.{Thread}
 use Rattle.rules.specs.declared.Request.{Request}
 use Rattle.request.specs.Written.{written}
 use Rattle.fairness.specs.Run.{Event, sameSet, undisturbed, sumTurns, chargedTo, chargedRank}
-use Rattle.promises.specs.Demand3.{Door, runOf}
+use Rattle.fairness.specs.Doors.{Door, runOf}
 
 -- requests, each as its record with an area of 8 bytes
 abbrev pub asks : List Request → List Handed

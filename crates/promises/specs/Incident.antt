@@ -15,7 +15,8 @@ use Rattle.rules.specs.Table.{encode, decode}
 use Rattle.rules.specs.Door.{door, freshTable, tableAfter}
 use Rattle.rules.specs.declared.Request.{Request}
 use Rattle.rules.specs.declared.Request.the-variants.{Create, Make, Pend, PostFromInterrupt, Tick}
-use Rattle.promises.specs.Demand3.{Door, FairDoor}
+use Rattle.fairness.specs.Doors.{Door}
+use Rattle.promises.specs.Demand3.{FairDoor}
 use Rattle.promises.specs.Figures.{asks, share, Figures, figures}
 
 -- THE RULE OF THE INCIDENT

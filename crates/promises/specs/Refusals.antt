@@ -1,5 +1,5 @@
 -- Document 01's two tables of refusals, written down apart from the operations, so that they can disagree with them.
-use mathlib.Core.Bool.{Bool, true, false, not, _&&_, _||_}
+use mathlib.Core.Bool.{Bool, false, not, _&&_, _||_}
 use mathlib.Core.List.{List, [], _∷_}
 use mathlib.Core.Option.{Option, none, some}
 use Prim.Native.Nat.{ℕ, _+_}
@@ -12,54 +12,32 @@ use Rattle.rules.specs.declared.Refusal.the-variants.{BadThread, BadPriority, B
 use Rattle.rules.specs.declared.Answer.{Answer}
 use Rattle.rules.specs.declared.Answer.the-variants.{Done, Blocked, NoneYet, Failed, Refused}
 use Rattle.rules.specs.declared.Request.{Request}
-use Rattle.rules.specs.declared.Request.the-variants.{
-  Yield,
-  Create,
-  Delete,
-  Set,
-  Suspend,
-  Resume,
-  Delay,
-  Cancel,
-  Send,
-  SendFromInterrupt,
-  Receive,
-  Make,
-  Drop,
-  Pend,
-  Abort,
-  Post,
-  PostFromInterrupt,
-  Lock,
-  Unlock,
-  Tick,
-  Outcome,
-}
+use Rattle.rules.specs.declared.Request.the-variants as Ask
 
 -- THE FIRST TABLE: "Refused, in this order"
 
 abbrev pub order : Request → List Refusal
-order Yield = []
-order (Create i p n) = BadPriority ∷ BadTicks ∷ BadThread ∷ []
-order (Delete i) = BadThread ∷ BadOperation ∷ []
-order (Set i p n) = BadPriority ∷ BadTicks ∷ BadThread ∷ BadOperation ∷ []
-order (Suspend i) = BadThread ∷ BadState ∷ BadOperation ∷ []
-order (Resume i) = BadThread ∷ BadState ∷ []
-order (Delay n) = BadTicks ∷ BadOperation ∷ []
-order (Cancel i) = BadThread ∷ BadState ∷ []
-order (Send i n x) = BadThread ∷ BadOperation ∷ []
-order (SendFromInterrupt i x) = BadThread ∷ BadOperation ∷ []
-order (Receive n) = BadOperation ∷ []
-order (Make k n) = BadSemaphore ∷ BadOperation ∷ []
-order (Drop k) = BadSemaphore ∷ []
-order (Pend k n) = BadSemaphore ∷ BadOperation ∷ []
-order (Abort i) = BadThread ∷ BadState ∷ []
-order (Post k n) = BadSemaphore ∷ BadOperation ∷ []
-order (PostFromInterrupt k n) = BadSemaphore ∷ BadOperation ∷ []
-order Lock = BadOperation ∷ []
-order Unlock = BadOperation ∷ []
-order Tick = []
-order (Outcome i) = BadThread ∷ []
+order Ask.Yield = []
+order (Ask.Create i p n) = BadPriority ∷ BadTicks ∷ BadThread ∷ []
+order (Ask.Delete i) = BadThread ∷ BadOperation ∷ []
+order (Ask.Set i p n) = BadPriority ∷ BadTicks ∷ BadThread ∷ BadOperation ∷ []
+order (Ask.Suspend i) = BadThread ∷ BadState ∷ BadOperation ∷ []
+order (Ask.Resume i) = BadThread ∷ BadState ∷ []
+order (Ask.Delay n) = BadTicks ∷ BadOperation ∷ []
+order (Ask.Cancel i) = BadThread ∷ BadState ∷ []
+order (Ask.Send i n x) = BadThread ∷ BadOperation ∷ []
+order (Ask.SendFromInterrupt i x) = BadThread ∷ BadOperation ∷ []
+order (Ask.Receive n) = BadOperation ∷ []
+order (Ask.Make k n) = BadSemaphore ∷ BadOperation ∷ []
+order (Ask.Drop k) = BadSemaphore ∷ []
+order (Ask.Pend k n) = BadSemaphore ∷ BadOperation ∷ []
+order (Ask.Abort i) = BadThread ∷ BadState ∷ []
+order (Ask.Post k n) = BadSemaphore ∷ BadOperation ∷ []
+order (Ask.PostFromInterrupt k n) = BadSemaphore ∷ BadOperation ∷ []
+order Ask.Lock = BadOperation ∷ []
+order Ask.Unlock = BadOperation ∷ []
+order Ask.Tick = []
+order (Ask.Outcome i) = BadThread ∷ []
 
 -- THE SECOND TABLE: "Given exactly when"
 
@@ -77,27 +55,27 @@ abbrev names : Named → ℕ → ℕ → Names
 names o p n = record { object = o; priority = p; ticks = n }
 
 abbrev pub namesOf : Request → Names
-namesOf Yield = names nothing 0 1
-namesOf (Create i p n) = names (newThread i) p n
-namesOf (Delete i) = names (thread i) 0 1
-namesOf (Set i p n) = names (thread i) p n
-namesOf (Suspend i) = names (thread i) 0 1
-namesOf (Resume i) = names (thread i) 0 1
-namesOf (Delay n) = names nothing 0 n
-namesOf (Cancel i) = names (thread i) 0 1
-namesOf (Send i n x) = names (thread i) 0 1
-namesOf (SendFromInterrupt i x) = names (thread i) 0 1
-namesOf (Receive n) = names nothing 0 1
-namesOf (Make k n) = names (newSemaphore k) 0 1
-namesOf (Drop k) = names (semaphore k) 0 1
-namesOf (Pend k n) = names (semaphore k) 0 1
-namesOf (Abort i) = names (thread i) 0 1
-namesOf (Post k n) = names (semaphore k) 0 1
-namesOf (PostFromInterrupt k n) = names (semaphore k) 0 1
-namesOf Lock = names nothing 0 1
-namesOf Unlock = names nothing 0 1
-namesOf Tick = names nothing 0 1
-namesOf (Outcome i) = names (thread i) 0 1
+namesOf Ask.Yield = names nothing 0 1
+namesOf (Ask.Create i p n) = names (newThread i) p n
+namesOf (Ask.Delete i) = names (thread i) 0 1
+namesOf (Ask.Set i p n) = names (thread i) p n
+namesOf (Ask.Suspend i) = names (thread i) 0 1
+namesOf (Ask.Resume i) = names (thread i) 0 1
+namesOf (Ask.Delay n) = names nothing 0 n
+namesOf (Ask.Cancel i) = names (thread i) 0 1
+namesOf (Ask.Send i n x) = names (thread i) 0 1
+namesOf (Ask.SendFromInterrupt i x) = names (thread i) 0 1
+namesOf (Ask.Receive n) = names nothing 0 1
+namesOf (Ask.Make k n) = names (newSemaphore k) 0 1
+namesOf (Ask.Drop k) = names (semaphore k) 0 1
+namesOf (Ask.Pend k n) = names (semaphore k) 0 1
+namesOf (Ask.Abort i) = names (thread i) 0 1
+namesOf (Ask.Post k n) = names (semaphore k) 0 1
+namesOf (Ask.PostFromInterrupt k n) = names (semaphore k) 0 1
+namesOf Ask.Lock = names nothing 0 1
+namesOf Ask.Unlock = names nothing 0 1
+namesOf Ask.Tick = names nothing 0 1
+namesOf (Ask.Outcome i) = names (thread i) 0 1
 
 -- "−1: thread number above 15, or free (Create: in use)": 15 is the last thread of the board
 abbrev pub minus1 : State → Named → Bool
@@ -117,27 +95,27 @@ minus6 s (newSemaphore k) = leb (length (s .sems)) k || semAt (s .sems) k .used
 
 -- "−4: Suspend: already suspended; Resume: not; Cancel: not in a delay; Abort: not waiting on a semaphore"
 abbrev pub minus4 : State → Request → Bool
-minus4 s Yield = false
-minus4 s (Create i p n) = false
-minus4 s (Delete i) = false
-minus4 s (Set i p n) = false
-minus4 s (Suspend i) = at (s .threads) i .suspended
-minus4 s (Resume i) = not (at (s .threads) i .suspended)
-minus4 s (Delay n) = false
-minus4 s (Cancel i) = not (delaying (at (s .threads) i .wait))
-minus4 s (Send i n x) = false
-minus4 s (SendFromInterrupt i x) = false
-minus4 s (Receive n) = false
-minus4 s (Make k n) = false
-minus4 s (Drop k) = false
-minus4 s (Pend k n) = false
-minus4 s (Abort i) = not (pending (at (s .threads) i .wait))
-minus4 s (Post k n) = false
-minus4 s (PostFromInterrupt k n) = false
-minus4 s Lock = false
-minus4 s Unlock = false
-minus4 s Tick = false
-minus4 s (Outcome i) = false
+minus4 s Ask.Yield = false
+minus4 s (Ask.Create i p n) = false
+minus4 s (Ask.Delete i) = false
+minus4 s (Ask.Set i p n) = false
+minus4 s (Ask.Suspend i) = at (s .threads) i .suspended
+minus4 s (Ask.Resume i) = not (at (s .threads) i .suspended)
+minus4 s (Ask.Delay n) = false
+minus4 s (Ask.Cancel i) = not (delaying (at (s .threads) i .wait))
+minus4 s (Ask.Send i n x) = false
+minus4 s (Ask.SendFromInterrupt i x) = false
+minus4 s (Ask.Receive n) = false
+minus4 s (Ask.Make k n) = false
+minus4 s (Ask.Drop k) = false
+minus4 s (Ask.Pend k n) = false
+minus4 s (Ask.Abort i) = not (pending (at (s .threads) i .wait))
+minus4 s (Ask.Post k n) = false
+minus4 s (Ask.PostFromInterrupt k n) = false
+minus4 s Ask.Lock = false
+minus4 s Ask.Unlock = false
+minus4 s Ask.Tick = false
+minus4 s (Ask.Outcome i) = false
 
 abbrev pub locked : State → Bool
 locked s = not (eqb (s .lock) 0)
@@ -148,38 +126,38 @@ cannotWait s n = eqb n 0 || eqb (s .running) 0 || locked s
 
 -- "−5: as said under each operation below"
 abbrev pub minus5 : State → Request → Bool
-minus5 s Yield = false
-minus5 s (Create i p n) = false
+minus5 s Ask.Yield = false
+minus5 s (Ask.Create i p n) = false
 -- "−5 for Init, or the running thread under lock."
-minus5 s (Delete i) = eqb i 0 || (eqb i (s .running) && locked s)
+minus5 s (Ask.Delete i) = eqb i 0 || (eqb i (s .running) && locked s)
 -- "−5 for Init."
-minus5 s (Set i p n) = eqb i 0
+minus5 s (Ask.Set i p n) = eqb i 0
 -- "−5 for Init, or the running thread under lock."
-minus5 s (Suspend i) = eqb i 0 || (eqb i (s .running) && locked s)
-minus5 s (Resume i) = false
+minus5 s (Ask.Suspend i) = eqb i 0 || (eqb i (s .running) && locked s)
+minus5 s (Ask.Resume i) = false
 -- "−5 for Init or under lock."
-minus5 s (Delay n) = eqb (s .running) 0 || locked s
-minus5 s (Cancel i) = false
+minus5 s (Ask.Delay n) = eqb (s .running) 0 || locked s
+minus5 s (Ask.Cancel i) = false
 -- "To oneself −5." "To a full one, the sender must wait."
-minus5 s (Send i n x) = eqb i (s .running) || (at (s .threads) i .full && cannotWait s n)
+minus5 s (Ask.Send i n x) = eqb i (s .running) || (at (s .threads) i .full && cannotWait s n)
 -- "From an interrupt: −5 under lock or if full."
-minus5 s (SendFromInterrupt i x) = locked s || at (s .threads) i .full
+minus5 s (Ask.SendFromInterrupt i x) = locked s || at (s .threads) i .full
 -- "An empty one must wait."
-minus5 s (Receive n) = not (caller s .full) && cannotWait s n
+minus5 s (Ask.Receive n) = not (caller s .full) && cannotWait s n
 -- "−5 if number is above 99."
-minus5 s (Make k n) = ltb 99 n
-minus5 s (Drop k) = false
+minus5 s (Ask.Make k n) = ltb 99 n
+minus5 s (Ask.Drop k) = false
 -- "With count above 0 takes one [..]; else must wait."
-minus5 s (Pend k n) = eqb (semAt (s .sems) k .count) 0 && cannotWait s n
-minus5 s (Abort i) = false
+minus5 s (Ask.Pend k n) = eqb (semAt (s .sems) k .count) 0 && cannotWait s n
+minus5 s (Ask.Abort i) = false
 -- "−5 if number is 0 or count + number is above 99; from an interrupt also under lock."
-minus5 s (Post k n) = eqb n 0 || ltb 99 (semAt (s .sems) k .count + n)
-minus5 s (PostFromInterrupt k n) = eqb n 0 || ltb 99 (semAt (s .sems) k .count + n) || locked s
+minus5 s (Ask.Post k n) = eqb n 0 || ltb 99 (semAt (s .sems) k .count + n)
+minus5 s (Ask.PostFromInterrupt k n) = eqb n 0 || ltb 99 (semAt (s .sems) k .count + n) || locked s
 -- "Lock −5 at 255. Unlock −5 at 0."
-minus5 s Lock = leb 255 (s .lock)
-minus5 s Unlock = eqb (s .lock) 0
-minus5 s Tick = false
-minus5 s (Outcome i) = false
+minus5 s Ask.Lock = leb 255 (s .lock)
+minus5 s Ask.Unlock = eqb (s .lock) 0
+minus5 s Ask.Tick = false
+minus5 s (Ask.Outcome i) = false
 
 abbrev pub given : State → Request → Refusal → Bool
 given s q BadThread = minus1 s (namesOf q .object)

@@ -8,12 +8,12 @@ use Prim.Native.Nat.{ℕ}
 use lib.IntN.{negsuc}
 use lib.ListN.{length, replicate, take, drop}
 use Rattle.rules.specs.Board.{printer}
-use Rattle.rules.specs.Trace.{cleanArea}
+use Rattle.rules.specs.Requests.{tickRecord}
+use Rattle.rules.specs.Trace.{cleanly}
 use Rattle.rules.specs.Door.{door, freshTable, Handed, tableAfter}
 use Rattle.rules.specs.declared.Request.{Request}
 use Rattle.rules.specs.declared.Request.the-variants.{Yield, Create, Delete, Set, Suspend, Resume, Lock, Unlock, Tick}
-use Rattle.request.specs.Written.{written}
-use Rattle.promises.specs.Demand3.{runOf}
+use Rattle.fairness.specs.Doors.{runOf}
 use Rattle.promises.specs.Figures.{asks, Run, Share, share, Figures, figures, ownTurns}
 
 unfoldable pub start : List ℕ
@@ -21,10 +21,10 @@ start = tableAfter printer (freshTable printer) (asks (Create 1 5 2 ∷ Create 2
 
 -- a tick that gets −8 for an object that it has no use for, and one that gets −7 for an area of 7 bytes
 abbrev badRecord : Handed
-badRecord = record { request = 19 ∷ 1 ∷ replicate 10 0; area = cleanArea }
+badRecord = cleanly (19 ∷ 1 ∷ replicate 10 0)
 
 abbrev badArea : Handed
-badArea = record { request = written Tick; area = replicate 7 0 }
+badArea = record { request = tickRecord; area = replicate 7 0 }
 
 -- Thread 3 breaks in at rank 9, is charged two ticks and goes; a tick under lock and the two refused ones are charged to nobody.
 -- All is counted but the first tick, so that the part begins in the middle of thread 1's turn.

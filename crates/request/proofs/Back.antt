@@ -6,29 +6,7 @@ use native.Mathlib.Omega.{arith}
 use Rattle.rules.specs.Requests.{requestOf, decodeRequest}
 use Rattle.rules.specs.declared.Decoded.the-variants.{Asked}
 use Rattle.rules.specs.declared.Request.{Request}
-use Rattle.rules.specs.declared.Request.the-variants.{
-  Yield,
-  Create,
-  Delete,
-  Set,
-  Suspend,
-  Resume,
-  Delay,
-  Cancel,
-  Send,
-  SendFromInterrupt,
-  Receive,
-  Make,
-  Drop,
-  Pend,
-  Abort,
-  Post,
-  PostFromInterrupt,
-  Lock,
-  Unlock,
-  Tick,
-  Outcome,
-}
+use Rattle.rules.specs.declared.Request.the-variants as Ask
 use Rattle.request.specs.Written.{fieldsOf, written}
 
 word-back : (x : ℕ) → x % 256 + 256 * (x / 256 % 256) + 65536 * (x / 65536 % 256) + 16777216 * (x / 16777216) ≡ x
@@ -36,27 +14,27 @@ word-back x = omega arith
 
 fields-asked : (r : Request) → let f = fieldsOf r in requestOf (f .0) (f .1) (f .2) (f .3) (f .4) ≡ Asked r
 unfolding requestOf
-fields-asked Yield = refl
-fields-asked (Create i p n) = refl
-fields-asked (Delete i) = refl
-fields-asked (Set i p n) = refl
-fields-asked (Suspend i) = refl
-fields-asked (Resume i) = refl
-fields-asked (Delay n) = refl
-fields-asked (Cancel i) = refl
-fields-asked (Send i n d) = refl
-fields-asked (SendFromInterrupt i d) = refl
-fields-asked (Receive n) = refl
-fields-asked (Make k n) = refl
-fields-asked (Drop k) = refl
-fields-asked (Pend k n) = refl
-fields-asked (Abort i) = refl
-fields-asked (Post k n) = refl
-fields-asked (PostFromInterrupt k n) = refl
-fields-asked Lock = refl
-fields-asked Unlock = refl
-fields-asked Tick = refl
-fields-asked (Outcome i) = refl
+fields-asked Ask.Yield = refl
+fields-asked (Ask.Create i p n) = refl
+fields-asked (Ask.Delete i) = refl
+fields-asked (Ask.Set i p n) = refl
+fields-asked (Ask.Suspend i) = refl
+fields-asked (Ask.Resume i) = refl
+fields-asked (Ask.Delay n) = refl
+fields-asked (Ask.Cancel i) = refl
+fields-asked (Ask.Send i n d) = refl
+fields-asked (Ask.SendFromInterrupt i d) = refl
+fields-asked (Ask.Receive n) = refl
+fields-asked (Ask.Make k n) = refl
+fields-asked (Ask.Drop k) = refl
+fields-asked (Ask.Pend k n) = refl
+fields-asked (Ask.Abort i) = refl
+fields-asked (Ask.Post k n) = refl
+fields-asked (Ask.PostFromInterrupt k n) = refl
+fields-asked Ask.Lock = refl
+fields-asked Ask.Unlock = refl
+fields-asked Ask.Tick = refl
+fields-asked (Ask.Outcome i) = refl
 
 pub decode-written : (r : Request) → decodeRequest (written r) ≡ Asked r
 unfolding decodeRequest written

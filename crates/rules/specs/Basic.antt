@@ -34,7 +34,7 @@ abbrev pub allBelow : ℕ → (ℕ → Bool) → Bool
 allBelow zero test = true
 allBelow (suc n) test = allBelow n test && test n
 
--- the first n pieces of a list, each of a width
+-- the first n pieces of a list, each as long as the width
 abbrev pub pieces : {A : Type 0} → ℕ → ℕ → List A → List (List A)
 pieces width zero xs = []
 pieces width (suc n) xs = take width xs ∷ pieces width n (drop width xs)

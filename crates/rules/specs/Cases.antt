@@ -5,9 +5,8 @@ use mathlib.Core.List.{List, [], _∷_, _++_, map}
 use Prim.Native.Nat.{ℕ, zero, suc, pred, _+_, _*_}
 use lib.IntN.{ℤ, pos, negsuc}
 use lib.ListN.{length, take, drop}
-use Rattle.rules.specs.Board.{Board, printer, recordLength}
+use Rattle.rules.specs.Board.{printer, recordLength}
 use Rattle.rules.specs.Table.{wordBytes}
-use Rattle.rules.specs.Requests.{requestLength}
 use Rattle.rules.specs.Door.{freshTable, tableAfter}
 use Rattle.rules.specs.Trace.{TraceLine, served, short, cleanly, trace}
 

@@ -1,5 +1,5 @@
 -- The door: for every table, record and answer area, whatever their lengths and bytes, the code, the table and the area after it.
-use mathlib.Core.Bool.{Bool, true, false, _&&_}
+use mathlib.Core.Bool.{_&&_}
 use mathlib.Core.List.{List, [], _∷_}
 use Prim.Native.Nat.{ℕ, pred}
 use lib.Dec.{eqb}
@@ -12,7 +12,6 @@ use Rattle.rules.specs.Table.{encode, decode}
 use Rattle.rules.specs.Answers.{codeOf, areaLength, areaOf}
 use Rattle.rules.specs.Requests.{decodeRequest}
 use Rattle.rules.specs.Threads.{created}
-use Rattle.rules.specs.Waiting.{Step}
 use Rattle.rules.specs.Steps.{step}
 use Rattle.rules.specs.Test.{soundTable}
 use Rattle.rules.specs.declared.Refusal.the-variants.{BadTable, BadRecord}

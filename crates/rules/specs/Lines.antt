@@ -1,7 +1,7 @@
 -- Lines: which line a thread stands in, who is first, and what becomes of the places when one leaves or joins.
 -- A thread's own record says which line it stands in; there are no lists of lines.
-use mathlib.Core.Bool.{Bool, true, false, not, _&&_}
-use mathlib.Core.List.{List, [], _∷_, map}
+use mathlib.Core.Bool.{Bool, false, _&&_}
+use mathlib.Core.List.{List, map}
 use Prim.Native.Nat.{ℕ, zero, suc, pred}
 use lib.Dec.{eqb, ltb}
 use lib.ListN.{length}

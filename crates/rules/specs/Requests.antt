@@ -8,29 +8,7 @@ use lib.ListN.{length, getD, getElem?, replicate}
 use Rattle.rules.specs.Basic.{if_then_else_}
 use Rattle.rules.specs.Table.{wordAt}
 use Rattle.rules.specs.declared.Request.{Request}
-use Rattle.rules.specs.declared.Request.the-variants.{
-  Yield,
-  Create,
-  Delete,
-  Set,
-  Suspend,
-  Resume,
-  Delay,
-  Cancel,
-  Send,
-  SendFromInterrupt,
-  Receive,
-  Make,
-  Drop,
-  Pend,
-  Abort,
-  Post,
-  PostFromInterrupt,
-  Lock,
-  Unlock,
-  Tick,
-  Outcome,
-}
+use Rattle.rules.specs.declared.Request.the-variants as Ask
 use Rattle.rules.specs.declared.Decoded.{Decoded}
 use Rattle.rules.specs.declared.Decoded.the-variants.{Asked, Bad}
 
@@ -57,27 +35,27 @@ uses o p n d r = record { object = o; priority = p; number = n; parcel = d; asks
 -- document 01's column "Uses", in the order of the operations' numbers: object, priority, number, data
 abbrev pub operations : List Operation
 operations =
-    uses ✗ ✗ ✗ ✗ (λ o p n d. Yield)
-    ∷ uses ✓ ✓ ✓ ✗ (λ o p n d. Create o p n)
-    ∷ uses ✓ ✗ ✗ ✗ (λ o p n d. Delete o)
-    ∷ uses ✓ ✓ ✓ ✗ (λ o p n d. Set o p n)
-    ∷ uses ✓ ✗ ✗ ✗ (λ o p n d. Suspend o)
-    ∷ uses ✓ ✗ ✗ ✗ (λ o p n d. Resume o)
-    ∷ uses ✗ ✗ ✓ ✗ (λ o p n d. Delay n)
-    ∷ uses ✓ ✗ ✗ ✗ (λ o p n d. Cancel o)
-    ∷ uses ✓ ✗ ✓ ✓ (λ o p n d. Send o n d)
-    ∷ uses ✓ ✗ ✗ ✓ (λ o p n d. SendFromInterrupt o d)
-    ∷ uses ✗ ✗ ✓ ✗ (λ o p n d. Receive n)
-    ∷ uses ✓ ✗ ✓ ✗ (λ o p n d. Make o n)
-    ∷ uses ✓ ✗ ✗ ✗ (λ o p n d. Drop o)
-    ∷ uses ✓ ✗ ✓ ✗ (λ o p n d. Pend o n)
-    ∷ uses ✓ ✗ ✗ ✗ (λ o p n d. Abort o)
-    ∷ uses ✓ ✗ ✓ ✗ (λ o p n d. Post o n)
-    ∷ uses ✓ ✗ ✓ ✗ (λ o p n d. PostFromInterrupt o n)
-    ∷ uses ✗ ✗ ✗ ✗ (λ o p n d. Lock)
-    ∷ uses ✗ ✗ ✗ ✗ (λ o p n d. Unlock)
-    ∷ uses ✗ ✗ ✗ ✗ (λ o p n d. Tick)
-    ∷ uses ✓ ✗ ✗ ✗ (λ o p n d. Outcome o)
+    uses ✗ ✗ ✗ ✗ (λ o p n d. Ask.Yield)
+    ∷ uses ✓ ✓ ✓ ✗ (λ o p n d. Ask.Create o p n)
+    ∷ uses ✓ ✗ ✗ ✗ (λ o p n d. Ask.Delete o)
+    ∷ uses ✓ ✓ ✓ ✗ (λ o p n d. Ask.Set o p n)
+    ∷ uses ✓ ✗ ✗ ✗ (λ o p n d. Ask.Suspend o)
+    ∷ uses ✓ ✗ ✗ ✗ (λ o p n d. Ask.Resume o)
+    ∷ uses ✗ ✗ ✓ ✗ (λ o p n d. Ask.Delay n)
+    ∷ uses ✓ ✗ ✗ ✗ (λ o p n d. Ask.Cancel o)
+    ∷ uses ✓ ✗ ✓ ✓ (λ o p n d. Ask.Send o n d)
+    ∷ uses ✓ ✗ ✗ ✓ (λ o p n d. Ask.SendFromInterrupt o d)
+    ∷ uses ✗ ✗ ✓ ✗ (λ o p n d. Ask.Receive n)
+    ∷ uses ✓ ✗ ✓ ✗ (λ o p n d. Ask.Make o n)
+    ∷ uses ✓ ✗ ✗ ✗ (λ o p n d. Ask.Drop o)
+    ∷ uses ✓ ✗ ✓ ✗ (λ o p n d. Ask.Pend o n)
+    ∷ uses ✓ ✗ ✗ ✗ (λ o p n d. Ask.Abort o)
+    ∷ uses ✓ ✗ ✓ ✗ (λ o p n d. Ask.Post o n)
+    ∷ uses ✓ ✗ ✓ ✗ (λ o p n d. Ask.PostFromInterrupt o n)
+    ∷ uses ✗ ✗ ✗ ✗ (λ o p n d. Ask.Lock)
+    ∷ uses ✗ ✗ ✗ ✗ (λ o p n d. Ask.Unlock)
+    ∷ uses ✗ ✗ ✗ ✗ (λ o p n d. Ask.Tick)
+    ∷ uses ✓ ✗ ✗ ✗ (λ o p n d. Ask.Outcome o)
     ∷ []
 
 -- a field that is used, or zero
@@ -100,6 +78,6 @@ decodeRequest r =
     then requestOf (getD r 0 0) (getD r 1 0) (getD r 2 0) (wordAt r 4) (wordAt r 8)
     else Bad
 
--- "19 Tick": it uses no field
+-- the record of "19 Tick", which uses no field
 abbrev pub tickRecord : List ℕ
 tickRecord = 19 ∷ replicate (pred requestLength) 0

@@ -1,6 +1,5 @@
 -- Semaphores: Make, Drop, Pend, Abort, Post, Post from interrupt.
-use mathlib.Core.Bool.{Bool, true, false, not, _||_}
-use mathlib.Core.List.{List, [], _∷_}
+use mathlib.Core.Bool.{Bool, true, not, _||_}
 use Prim.Native.Nat.{ℕ, pred, _+_, _-_, min}
 use lib.Dec.{eqb, leb, ltb}
 use lib.ListN.{length, set}
@@ -10,7 +9,6 @@ use Rattle.rules.specs.State.{State, freeSem, semAt, pending, withThread
 use Rattle.rules.specs.Lines.{waiters, lineLength}
 use Rattle.rules.specs.Waiting.{Step, refuse, accept, serve, mustWait}
 use Rattle.rules.specs.Threads.{breakOff}
-use Rattle.rules.specs.declared.Sem.{Sem}
 use Rattle.rules.specs.declared.Wait.the-variants.{Semaphore}
 use Rattle.rules.specs.declared.Outcome.the-variants.{Done, Failed}
 use Rattle.rules.specs.declared.Refusal.the-variants.{BadOperation, BadSemaphore}

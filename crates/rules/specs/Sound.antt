@@ -1,6 +1,6 @@
 -- Soundness for a reader: "A table is sound exactly when:", a field for each thing that document 01 says.
 -- `Test` has the same as a Bool that computes, and the two are proved equivalent.
-use mathlib.Core.Bool.{Bool, true, false}
+use mathlib.Core.Bool.{true, false}
 use mathlib.Core.Path.{_≡_}
 use mathlib.Core.List.{List}
 use Prim.Native.Nat.{ℕ, _≤_}

@@ -1,17 +1,16 @@
 -- The kernel's state as a reader sees it: lists of any length. A number out of range reads as a free record.
 use mathlib.Core.Bool.{Bool, true, false, not, _&&_}
 use mathlib.Core.Path.{_≡_}
-use mathlib.Core.List.{List, [], _∷_}
+use mathlib.Core.List.{List}
 use Prim.Native.Nat.{ℕ}
 use lib.ListN.{length, getD, set}
 use Rattle.rules.specs.Board.{Board}
-use Rattle.rules.specs.Basic.{if_then_else_}
 use Rattle.rules.specs.declared.Thread.{Thread}
 use Rattle.rules.specs.declared.Sem.{Sem}
 use Rattle.rules.specs.declared.Wait.{Wait}
 use Rattle.rules.specs.declared.Wait.the-variants.{Nothing, Delay, Receive, Send, Semaphore}
 use Rattle.rules.specs.declared.Outcome.{Outcome}
-use Rattle.rules.specs.declared.Outcome.the-variants.{Done, NoneYet, Failed}
+use Rattle.rules.specs.declared.Outcome.the-variants.{Done}
 
 pub record State : Type 0 where
   pub threads : List Thread

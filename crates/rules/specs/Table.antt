@@ -1,13 +1,13 @@
 -- The table: "25 records of 24 bytes, no header. Records 0 to 15 are threads, 16 to 23 semaphores, 24 the kernel.
 -- Wide fields are little-endian."
-use mathlib.Core.Bool.{Bool, true, false}
+use mathlib.Core.Bool.{Bool}
 use mathlib.Core.List.{List, [], _∷_, _++_, map}
 use Prim.Native.Nat.{ℕ, _+_, _*_, _/_, _%_}
 use lib.Dec.{eqb}
 use lib.ListN.{getD, drop, replicate}
 use Rattle.rules.specs.Basic.{if_then_else_, bit, pieces}
 use Rattle.rules.specs.Board.{Board, recordLength}
-use Rattle.rules.specs.State.{State, free, freeSem, counterOf}
+use Rattle.rules.specs.State.{State, counterOf}
 use Rattle.rules.specs.declared.Thread.{Thread}
 use Rattle.rules.specs.declared.Sem.{Sem}
 use Rattle.rules.specs.declared.Wait.{Wait}

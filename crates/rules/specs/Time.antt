@@ -1,12 +1,12 @@
 -- The scheduler lock, the tick, and Outcome.
-use mathlib.Core.Bool.{Bool, true, false, not, _||_}
-use mathlib.Core.List.{List, [], _∷_}
+use mathlib.Core.Bool.{not, _||_}
+use mathlib.Core.List.{List}
 use Prim.Native.Nat.{ℕ, zero, suc, pred}
 use lib.Dec.{eqb, leb}
 use lib.ListN.{length}
 use Rattle.rules.specs.Basic.{if_then_else_}
 use Rattle.rules.specs.Board.{mostLock}
-use Rattle.rules.specs.State.{State, at, counterOf, waiting, withCounter, withThreads, withLock, edit}
+use Rattle.rules.specs.State.{State, at, counterOf, waiting, withCounter, withLock, edit}
 use Rattle.rules.specs.Lines.{move}
 use Rattle.rules.specs.Waiting.{Step, refuse, accept, acceptThreads, endWait}
 use Rattle.rules.specs.Threads.{noThread}
