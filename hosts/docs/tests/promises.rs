@@ -13,7 +13,7 @@ use docs::layers::crates;
 use docs::names::{declared, pieces, Piece, Quoted};
 use docs::{files, text, top};
 
-/// Words of Rattle, of C and of the documents that crates/ does not declare.
+/// Words of Rattle and of C that crates/ does not declare.
 const WORDS: [&str; 4] = ["requires", "ensures", "read", "write"];
 
 /// Where a name has to be declared.
@@ -51,94 +51,125 @@ fn find(path: &str, folder: Option<&Path>) -> Option<PathBuf> {
     places.into_iter().find(|place| top().join(place).exists())
 }
 
-/// Is the name at this place the head of a list, as in "`canon`, `places`: all"?
-fn heads(quoted: &[Quoted], at: usize, is_crate: &dyn Fn(&str) -> bool) -> bool {
-    let Some(name) = quoted.get(at).filter(|name| is_crate(&name.name)) else {
+/// Is the name at this place the head of a list, as both are in "`canon`, `places`: all"?
+fn heads(quoted: &[Quoted], at: usize) -> bool {
+    let is_crate = |name: &&Quoted| crates().iter().any(|part| part.name == name.name);
+    let Some(name) = quoted.get(at).filter(is_crate) else {
         return false;
     };
-    name.after.starts_with(':') || (name.after == ", " && heads(quoted, at + 1, is_crate))
+    name.after.starts_with(':') || (name.after == ", " && heads(quoted, at + 1))
 }
 
-/// Does a file in scope declare the name? A name with a dot is a record's field, or a file's definition.
-fn is_declared(name: &str, scope: &Scope) -> bool {
-    let in_scope = |path: &Path| match scope {
-        Scope::Anywhere => true,
-        Scope::File(file) => path == file,
-        Scope::Crates(names) => names
-            .iter()
-            .any(|name| path.starts_with(Path::new("crates").join(name).join("src"))),
-    };
-    if let Some((owner, item)) = name.split_once('.') {
-        return sources().iter().any(|(path, names)| {
-            let is_owner =
-                names.contains(owner) || path.file_stem().is_some_and(|stem| stem == owner);
-            is_owner && names.contains(item)
-        });
-    }
-    let mut sources = sources().iter().filter(|(path, _)| in_scope(path));
-    sources.any(|(_, names)| names.contains(name))
+/// Some file declares the record and the field, or is the file and declares the name.
+fn is_member(owner: &str, item: &str) -> bool {
+    sources().iter().any(|(path, names)| {
+        let is_file = path.file_stem().is_some_and(|stem| stem == owner);
+        (is_file || names.contains(owner)) && names.contains(item)
+    })
 }
 
-/// What is wrong with the names of a cell or a paragraph.
-fn faults(piece: &Piece, words: &[&str]) -> Vec<(usize, String)> {
-    let mut faults = Vec::new();
-    let (mut scope, mut folder) = (Scope::Anywhere, None);
-    let is_crate = |name: &str| crates().iter().any(|part| part.name == name);
-    for (at, name) in piece.quoted.iter().enumerate() {
-        if is_path(&name.name) {
-            match find(&name.name, folder.as_deref()) {
-                None => faults.push((
-                    name.line,
-                    format!("there is no file or folder `{}`", name.name),
-                )),
-                Some(path) => {
-                    folder = path.parent().map(Path::to_path_buf);
-                    let is_file = top().join(&path).is_file();
-                    scope = if is_file {
-                        Scope::File(path)
-                    } else {
-                        Scope::Anywhere
-                    };
-                }
-            }
-        } else if heads(&piece.quoted, at, &is_crate) {
-            match &mut scope {
-                Scope::Crates(names) if piece.quoted[at - 1].after == ", " => {
-                    names.push(name.name.clone())
-                }
-                _ => scope = Scope::Crates(vec![name.name.clone()]),
-            }
-        } else {
-            for word in name.name.split(' ').filter(|word| !words.contains(word)) {
-                if !is_declared(word, &scope) {
-                    let place = match &scope {
-                        Scope::Anywhere => "nothing in crates/ declares".to_string(),
-                        Scope::File(file) => format!("{} does not declare", file.display()),
-                        Scope::Crates(names) => {
-                            format!("crates/{}/src does not declare", names.join(", crates/"))
-                        }
-                    };
-                    faults.push((name.line, format!("{place} `{word}`")));
-                }
+impl Scope {
+    fn has(&self, file: &Path) -> bool {
+        match self {
+            Scope::Anywhere => true,
+            Scope::File(path) => file == path,
+            Scope::Crates(names) => {
+                let mut folders = names.iter().map(|name| format!("crates/{name}/src"));
+                folders.any(|folder| file.starts_with(folder))
             }
         }
-        let goes_on = match piece.is_cell {
-            true => !name.after.contains(';'),
-            false => [":", ",", ", and", "and"].contains(&name.after.trim()),
+    }
+
+    /// What is wrong with a name, if anything.
+    fn fault(&self, name: &str) -> Option<String> {
+        if let Some((owner, item)) = name.split_once('.') {
+            let fault = format!("nothing in crates/ declares `{name}`");
+            return (!is_member(owner, item)).then_some(fault);
+        }
+        let mut files = sources().iter().filter(|(path, _)| self.has(path));
+        if files.any(|(_, names)| names.contains(name)) {
+            return None;
+        }
+        let place = match self {
+            Scope::Anywhere => "crates/".to_string(),
+            Scope::File(path) => path.display().to_string(),
+            Scope::Crates(names) => format!("src/ of the crate {}", names.join(" or ")),
         };
-        if !goes_on {
-            scope = Scope::Anywhere;
-        }
+        Some(format!("nothing in {place} declares `{name}`"))
     }
-    faults
 }
 
-fn check(document: &str, part: &str, words: &[&str]) {
+/// Reads the names of a cell or a paragraph in their order.
+struct Reader<'a> {
+    foreign: &'a [&'a str],
+    scope: Scope,
+    folder: Option<PathBuf>,
+}
+
+impl Reader<'_> {
+    /// A path: the names behind it are declared in it.
+    fn path(&mut self, path: &str) -> Option<String> {
+        let found = find(path, self.folder.as_deref());
+        let fault = found
+            .is_none()
+            .then(|| format!("there is no file or folder `{path}`"));
+        let place = found.unwrap_or_else(|| Path::new("crates").join(path));
+        self.folder = place.parent().map(Path::to_path_buf);
+        self.scope = match top().join(&place).is_file() {
+            true => Scope::File(place),
+            false => Scope::Anywhere,
+        };
+        fault
+    }
+
+    /// The head of a list: the names behind it are functions of the crate, or of one of several.
+    fn head(&mut self, name: &str, follows: bool) {
+        match &mut self.scope {
+            Scope::Crates(names) if follows => names.push(name.to_string()),
+            scope => *scope = Scope::Crates(vec![name.to_string()]),
+        }
+    }
+
+    /// What is wrong with the names.
+    fn faults(&mut self, piece: &Piece) -> Vec<(usize, String)> {
+        let mut faults = Vec::new();
+        let mut after = "";
+        for (at, quoted) in piece.quoted.iter().enumerate() {
+            let name = quoted.name.as_str();
+            if is_path(name) {
+                faults.extend(self.path(name).map(|fault| (quoted.line, fault)));
+            } else if heads(&piece.quoted, at) {
+                self.head(name, after == ", ");
+            } else {
+                let words = name.split(' ').filter(|word| !self.foreign.contains(word));
+                let found = words.filter_map(|word| self.scope.fault(word));
+                faults.extend(found.map(|fault| (quoted.line, fault)));
+            }
+            after = &quoted.after;
+            let goes_on = match piece.is_cell {
+                true => !after.contains(';'),
+                false => [":", ",", ", and", "and"].contains(&after.trim()),
+            };
+            if !goes_on {
+                self.scope = Scope::Anywhere;
+            }
+        }
+        faults
+    }
+}
+
+/// Fails where a part of a document names something that is not there; `foreign` are words that crates/ does not declare.
+fn check(document: &str, part: &str, foreign: &[&str]) {
     let mut found = Vec::new();
     let mut names = 0;
     for piece in pieces(part) {
         names += piece.quoted.len();
-        let faults = faults(&piece, words).into_iter();
+        let mut reader = Reader {
+            foreign,
+            scope: Scope::Anywhere,
+            folder: None,
+        };
+        let faults = reader.faults(&piece).into_iter();
         found.extend(faults.map(|(line, fault)| format!("{document}:{line}: {fault}")));
     }
     assert!(found.is_empty(), "\n{}\n", found.join("\n"));
