@@ -18,16 +18,17 @@ struct Theorem {
     about: BTreeSet<String>,
 }
 
+/// What a function's modules of proofs call its promise: a theorem about a function speaks of one of these.
+const PROMISE: [&str; 2] = ["Post", "clauses"];
+
 /// The function that a module of proofs belongs to: `Rattle.threads.proofs.refusals.bad_ticks.Reads` is `threads::refusals::bad_ticks`.
-/// What only names the kinds of its parameters says nothing of its promise.
 fn function(module: &str) -> Option<String> {
     let (name, path) = module.strip_prefix("Rattle·")?.split_once(".proofs.")?;
     let path = path.strip_suffix(".Reads").unwrap_or(path);
-    let is_other = path.ends_with(".Kinds") || path.starts_with(char::is_uppercase);
-    (!is_other).then(|| format!("{name}::{}", path.replace('.', "::")))
+    Some(format!("{name}::{}", path.replace('.', "::")))
 }
 
-/// The theorems of a file: the fields of its records whose types have a module of some function's proofs in them.
+/// The theorems of a file: the fields of its records whose types speak of some function's promise.
 fn theorems(file: &PathBuf) -> Vec<Theorem> {
     let source = text(file);
     let mut modules = BTreeMap::new();
@@ -60,8 +61,9 @@ fn theorems(file: &PathBuf) -> Vec<Theorem> {
             .filter(|theorem| theorem.record == record && !record.is_empty())
         {
             let parts = line.split(|c: char| c.is_whitespace() || "(){},".contains(c));
-            let heads = parts.filter_map(|part| part.rsplit_once('.').map(|(head, _)| head));
-            let modules = heads.map(|head| modules.get(head).map_or(head, String::as_str));
+            let parts = parts.filter_map(|part| part.rsplit_once('.'));
+            let heads = parts.filter(|(_, item)| PROMISE.contains(item));
+            let modules = heads.map(|(head, _)| modules.get(head).map_or(head, String::as_str));
             theorem.about.extend(modules.filter_map(function));
         }
     }
