@@ -130,7 +130,7 @@ fn places(parts: &[Crate]) -> BTreeMap<&str, Place<'_>> {
 /// The columns of the picture.
 const NAME: usize = 14;
 const PURPOSE: usize = 78;
-const ARROWS: usize = 42;
+const ARROWS: usize = 44;
 
 /// A text in lines of a width.
 fn wrapped(text: &str, width: usize) -> Vec<String> {

@@ -1,5 +1,5 @@
-//! Everything that docs/PROMISES.md and docs/DECISIONS.md name between back quotes is there: files, folders, statements, proofs,
-//! functions, must-fail edits.
+//! Everything that docs/PROMISES.md and the readings of docs/DECISIONS.md name between back quotes is there: files, folders,
+//! statements, proofs, functions, must-fail edits. Of the other documents the files and folders are.
 //!
 //! A path is one from the top, from crates/, or from the folder of the path before it. In a cell of a table a name is declared in the
 //! file before it, or in the crate before it where that has a colon behind it; a semicolon ends that. In a paragraph only the names
@@ -188,4 +188,33 @@ fn everything_that_the_readings_name_is_there() {
         .split_once("## How the rules are written")
         .expect("docs/DECISIONS.md has the readings first");
     check("docs/DECISIONS.md", readings, &["short", "N"]);
+}
+
+#[test]
+fn every_path_that_a_document_names_is_there() {
+    let mut faults = Vec::new();
+    // a document, and the folder of the files that it names by their names alone
+    for (document, home) in [
+        ("README.md", ""),
+        ("docs/BENCH.md", "docs"),
+        ("docs/DECISIONS.md", "crates/rules/specs"),
+        ("examples/README.md", "examples"),
+    ] {
+        for piece in pieces(&text(document)) {
+            let mut folder = PathBuf::from(home);
+            // what is built is not there yet
+            let paths = piece.quoted.iter().filter(|quoted| is_path(&quoted.name));
+            for quoted in paths.filter(|quoted| !quoted.name.starts_with("target/")) {
+                match find(&quoted.name, Some(&folder)) {
+                    Some(path) if top().join(&path).is_dir() => folder = path,
+                    Some(_) => {}
+                    None => faults.push(format!(
+                        "{document}:{}: there is no file or folder `{}`",
+                        quoted.line, quoted.name
+                    )),
+                }
+            }
+        }
+    }
+    assert!(faults.is_empty(), "\n{}\n", faults.join("\n"));
 }
