@@ -203,3 +203,36 @@ pub fn with_picture(readme: &str, picture: &str) -> Option<String> {
     let (_, after) = rest.split_once(END)?;
     Some([before, BEGIN, picture, END, after].concat())
 }
+
+#[cfg(test)]
+mod tests {
+    use super::*;
+
+    #[test]
+    fn a_crate_stands_above_all_that_it_needs_in_any_order() {
+        let parts = read("# a comment\ntop: mid low io   # behind\nmid: low\nlow:\n");
+        let places = places(&parts);
+        let heights: Vec<usize> = ["low", "mid", "top"]
+            .map(|name| places[name].height)
+            .to_vec();
+        assert_eq!(heights, [0, 1, 2]);
+        assert_eq!(needs(&parts[0], &parts), ["mid", "low"]);
+    }
+
+    #[test]
+    fn a_crate_is_named_by_its_whole_name() {
+        assert!(names("use Rattle.mail.specs.Post", "mail"));
+        assert!(names("    mail::send(t)", "mail"));
+        assert!(!names("use Rattle.mailbox.specs", "mail"));
+        assert!(!names("    email::send(t)", "mail"));
+        assert!(!names("    rules::mail::send(t)", "mail"));
+    }
+
+    #[test]
+    fn a_picture_goes_between_the_comments() {
+        let readme = ["before\n", BEGIN, "old\n", END, "after\n"].concat();
+        let drawn = ["before\n", BEGIN, "new\n", END, "after\n"].concat();
+        assert_eq!(with_picture(&readme, "new\n"), Some(drawn));
+        assert_eq!(with_picture("no comments\n", "new\n"), None);
+    }
+}

@@ -175,3 +175,90 @@ pub fn pieces(document: &str) -> Vec<Piece> {
     }
     pieces
 }
+
+#[cfg(test)]
+mod tests {
+    use super::*;
+
+    fn list(names: BTreeSet<String>) -> Vec<String> {
+        names.into_iter().collect()
+    }
+
+    #[test]
+    fn antt_declares_definitions_fields_and_constructors_and_no_more() {
+        let source = "\
+-- other : Type
+use mathlib.Core.Path.{_≡_}
+pub data Line : Type 0 where
+  nowhere : Line
+  ready waiters : ℕ → Line
+pub record On (b : Board) : Type 0 where
+  -- gone : ℕ
+  pub sems : length (s .sems) ≡ b .sems
+      → (deep : ℕ) → wrapped : ℕ
+abbrev pub same : Line → Bool
+same nowhere = false
+join i s =
+  let inner : ℕ = 1 in
+  call : s
+";
+        let names = ["Line", "On", "nowhere", "ready", "same", "sems", "waiters"];
+        assert_eq!(list(antt(source)), names);
+    }
+
+    #[test]
+    fn rust_declares_items_and_the_cases_of_enums_and_no_more() {
+        let source = "\
+pub enum Wait {
+    // Gone is a comment
+    Nothing { counter: u32 },
+    Delay,
+}
+pub(crate) const fn most() -> u32 {
+    Other::call();
+    1
+}
+pub extern \"C\" fn door(t: &mut [u8]) -> i32
+const LIMIT: usize = 16;
+mod inner {
+    enum Line {
+        Ready(u8),
+    }
+}
+";
+        let names = [
+            "Delay", "LIMIT", "Line", "Nothing", "Ready", "Wait", "door", "inner", "most",
+        ];
+        assert_eq!(list(rust(source)), names);
+    }
+
+    #[test]
+    fn a_name_has_its_line_and_what_follows_it() {
+        let names = quoted("see `a`: `b\nc`,\nthen `d`", 5);
+        let found: Vec<(usize, &str, &str)> = names
+            .iter()
+            .map(|quoted| (quoted.line, quoted.name.as_str(), quoted.after.as_str()))
+            .collect();
+        let wanted = [(5, "a", ": "), (5, "b c", ",\nthen "), (7, "d", "")];
+        assert_eq!(found, wanted);
+    }
+
+    #[test]
+    fn a_bar_with_a_backslash_is_part_of_its_cell() {
+        assert_eq!(
+            cells(r"| 0 Yield \| \| | `a` | `b` |"),
+            [r"0 Yield \| \|", "`a`", "`b`"]
+        );
+    }
+
+    #[test]
+    fn code_is_no_piece_and_a_list_goes_on_behind_its_indent() {
+        let document = "one `a`\n    goes on `b`\n\n    code `c`\n\n```\n`d`\n```\n| `e` | `f` |\n";
+        let names: Vec<Vec<String>> = pieces(document)
+            .into_iter()
+            .map(|piece| piece.quoted.into_iter().map(|quoted| quoted.name).collect())
+            .filter(|names: &Vec<String>| !names.is_empty())
+            .collect();
+        assert_eq!(names, [vec!["a", "b"], vec!["e"], vec!["f"]]);
+    }
+}
