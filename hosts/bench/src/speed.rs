@@ -6,9 +6,35 @@ use crate::cases::{accepted, Group};
 use crate::measure::{steps, sum, time, Pair};
 use crate::worst::worst;
 
-/// The door may take so many times what the plain kernel takes: over all operations, and for any.
-const OVERALL: f64 = 1.5;
-const ANY: f64 = 2.0;
+/// How many times the plain kernel's instructions the door may take, and how many it aims at.
+struct Budget {
+    most: f64,
+    aim: f64,
+}
+
+/// Over all operations, and for any one call.
+const OVERALL: Budget = Budget {
+    most: 0.85,
+    aim: 0.75,
+};
+const ANY: Budget = Budget {
+    most: 1.2,
+    aim: 1.0,
+};
+
+impl Budget {
+    fn holds(&self, ratio: f64) -> bool {
+        ratio <= self.most
+    }
+
+    fn verdict(&self, ratio: f64) -> &'static str {
+        match ratio {
+            ratio if ratio <= self.aim => "OK, within the aim",
+            ratio if self.holds(ratio) => "OK, above the aim",
+            _ => "OVER",
+        }
+    }
+}
 
 /// Calls of a group that are timed, and that are counted instruction by instruction.
 const TIMED: usize = 32;
@@ -24,9 +50,9 @@ struct Row {
 }
 
 impl Row {
-    /// What the budget is about: the time, or the instructions where the time says nothing.
-    fn cost(&self) -> Pair {
-        self.nanoseconds.unwrap_or(self.instructions)
+    /// What the budget is about: instructions are the same on every machine, and times are not.
+    fn ratio(&self) -> f64 {
+        self.instructions.ratio()
     }
 
     fn figures(&self) -> String {
@@ -52,13 +78,6 @@ fn measure(groups: Vec<Group>, counted: usize, emulated: bool) -> Vec<Row> {
     .collect()
 }
 
-fn verdict(within: bool) -> &'static str {
-    match within {
-        true => "OK",
-        false => "OVER",
-    }
-}
-
 /// The head of a table whose rows have `Row::figures` between the first column and the others.
 fn print_head(first: &str, others: &[&str], emulated: bool) {
     let times = ["door ns", "plain.c ns", "ratio"];
@@ -75,9 +94,9 @@ fn print_head(first: &str, others: &[&str], emulated: bool) {
 
 fn print_rows(title: &str, rows: &[Row], emulated: bool) {
     println!("### {title}\n");
-    print_head("Call", &[&format!("at most {ANY}")], emulated);
+    print_head("Call", &[&format!("at most {}", ANY.most)], emulated);
     for row in rows {
-        let within = verdict(row.cost().ratio() <= ANY);
+        let within = if ANY.holds(row.ratio()) { "OK" } else { "OVER" };
         println!("| {} | {} | {within} |", row.name, row.figures());
     }
     println!();
@@ -124,20 +143,32 @@ pub fn report(emulated: bool) -> bool {
     print_rows("The calls that have the most to do", &worst, emulated);
     print_growth(emulated);
     let mix = || small.iter().chain(&full);
-    let overall = sum(mix().map(Row::cost)).ratio();
-    let ratios = mix().chain(&worst).map(|row| row.cost().ratio());
-    let highest = ratios.fold(0., f64::max);
-    let what = if emulated { "instructions" } else { "time" };
-    println!("| Budget, by {what} | ratio | at most | |\n|---|---:|---:|---|");
+    let overall = sum(mix().map(|row| row.instructions)).ratio();
+    let all = || mix().chain(&worst);
+    let highest = all().max_by(|a, b| a.ratio().total_cmp(&b.ratio()));
+    let highest = highest.expect("there are calls");
+    println!("| Budget, by instructions | ratio | at most | aim | |\n|---|---:|---:|---:|---|");
+    let any = format!("the highest of any call: {}", highest.name);
     for (name, ratio, budget) in [
-        ("all operations, small and full tables", overall, OVERALL),
-        ("the highest of any call", highest, ANY),
+        ("all operations, small and full tables", overall, &OVERALL),
+        (&any, highest.ratio(), &ANY),
     ] {
         println!(
-            "| {name} | {ratio:.2} | {budget} | {} |",
-            verdict(ratio <= budget)
+            "| {name} | {ratio:.2} | {} | {} | {} |",
+            budget.most,
+            budget.aim,
+            budget.verdict(ratio)
         );
     }
     println!();
-    overall <= OVERALL && highest <= ANY
+    let count = |limit: f64| all().filter(|row| row.ratio() > limit).count();
+    println!(
+        "Of {} kinds of calls {} take more than {} times plain.c's instructions, and {} more than {}.\n",
+        all().count(),
+        count(ANY.most),
+        ANY.most,
+        count(ANY.aim),
+        ANY.aim
+    );
+    OVERALL.holds(overall) && ANY.holds(highest.ratio())
 }
