@@ -33,12 +33,11 @@ unfoldable pub runOf : Board → Door → List ℕ → List Handed → List Even
 runOf b d t [] = []
 runOf b d t (h ∷ hs) = let r = d t (h .request) (h .area) in eventOf b t h r ∷ runOf b d (r .table) hs
 
--- What the demand says of a door. Of an empty set it claims nothing, so that the set need not be said not to be empty.
-abbrev pub FairDoor : Board → Door → Type 0
-FairDoor b d =
-    (t : List ℕ) (hs : List Handed) (p : ℕ) (from steps : ℕ) →
+-- What the demand says of a run from table t. Of an empty set it claims nothing, so that the set need not be said not to be empty.
+abbrev pub Fair : Board → List ℕ → List Event → Type 0
+Fair b t run =
+    (p : ℕ) (from steps : ℕ) →
     let threads = decode b t .threads in
-    let run = runOf b d t hs in
     -- "every unbroken part of the run"
     let part = take steps (drop from run) in
     -- "from any sound table"
@@ -51,6 +50,10 @@ FairDoor b d =
     → count (chargedRank p) part ≡ sumTurns p threads
     -- "each thread was charged exactly its own turn"
     → (i : ℕ) → readyAt p (decode b t) i ≡ true → count (chargedTo i) part ≡ at threads i .turn
+
+-- of a door: its runs are fair
+abbrev pub FairDoor : Board → Door → Type 0
+FairDoor b d = (t : List ℕ) (hs : List Handed) → Fair b t (runOf b d t hs)
 
 -- on a board of any number of threads
 abbrev pub Demand3 : Type 0
