@@ -153,9 +153,9 @@ module _ (r : List ℕ) where
       | isnt low ↦ elim (test (eqb (getD r 3 0) 0)) [
         | isnt e ↦ third (eqb-false (getD r 3 0) 0 e)
         | is z ↦ look 11 (λ rest.
-          let x = parts (eqb-true (length r) 12 long) (ltb-false 20 (getD r 0 0) low) (eqb-true (getD r 3 0) 0 z) rest in
-          let c : _≡_ {A = ℕ} 0 1 = cc (bad, parts-asked r x) in
-          absurd (omega arith))
+            let x = parts (eqb-true (length r) 12 long) (ltb-false 20 (getD r 0 0) low) (eqb-true (getD r 3 0) 0 z) rest in
+            let c : _≡_ {A = ℕ} 0 1 = cc (bad, parts-asked r x) in
+            absurd (omega arith))
       ]
     ]
   ]
