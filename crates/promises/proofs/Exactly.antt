@@ -2,13 +2,12 @@
 use mathlib.Core.Bool.{true}
 use mathlib.Core.Path.{_≡_, refl, sym, ap, _∙_}
 use mathlib.Core.List.{List, [], _∷_}
-use mathlib.Core.Option.{Option, none, some}
+use mathlib.Core.Option.{some}
 use Prim.Native.Nat.{ℕ, _≤_}
 use native.Mathlib.Omega.{arith}
 use lib.IntN.{ℤ, pos, negsuc}
 use Rattle.rules.specs.State.{State}
 use Rattle.rules.specs.Answers.{codeOf}
-use Rattle.rules.specs.Waiting.{Step}
 use Rattle.rules.specs.Steps.{step}
 use Rattle.rules.specs.declared.Refusal.{Refusal}
 use Rattle.rules.specs.declared.Refusal.the-variants.{BadThread, BadPriority, BadTicks, BadState, BadOperation, BadSemaphore, BadTable, BadRecord}

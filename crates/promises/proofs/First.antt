@@ -1,40 +1,35 @@
 -- Demand 1 holds: the door tests soundness and the area first, then the record, and a step refuses by document 01's tables.
 -- Assumes nothing.
-use mathlib.Core.Bool.{Bool, true, false, _&&_}
+use mathlib.Core.Bool.{_&&_}
 use mathlib.Core.Path.{_≡_, refl, ap, sym, _∙_}
 use mathlib.Core.List.{List}
-use mathlib.Core.Option.{Option, none, some}
+use mathlib.Core.Option.{none, some}
 use Prim.Native.Nat.{ℕ}
 use native.Mathlib.Omega.{arith}
 use lib.Dec.{eqb}
 use lib.IntN.{negsuc}
 use borrow.Author.Tests.{eqb-true, eq-eqb}
 use lib.ListN.{length}
-use Rattle.rules.specs.Basic.{if_then_else_}
 use Rattle.rules.specs.Board.{Board}
-use Rattle.rules.specs.State.{State}
 use Rattle.rules.specs.Table.{encode, decode}
 use Rattle.rules.specs.Answers.{areaLength, areaOf}
 use Rattle.rules.specs.Requests.{decodeRequest}
 use Rattle.rules.specs.Sound.{SoundTable}
 use Rattle.rules.specs.Test.{soundTable}
-use Rattle.rules.specs.Waiting.{Step}
 use Rattle.rules.specs.Steps.{step}
-use Rattle.rules.specs.Door.{Doored, answered, serveDecoded, door}
+use Rattle.rules.specs.Door.{answered, serveDecoded, door}
 use Rattle.rules.specs.declared.Refusal.{Refusal}
 use Rattle.rules.specs.declared.Refusal.the-variants.{BadRecord}
 use Rattle.rules.specs.declared.Answer.{Answer}
 use Rattle.rules.specs.declared.Answer.the-variants.{Done, Blocked, NoneYet, Failed, Refused}
-use Rattle.rules.specs.declared.Request.{Request}
 use Rattle.rules.specs.declared.Decoded.{Decoded}
 use Rattle.rules.specs.declared.Decoded.the-variants.{Asked, Bad}
-use Rattle.request.specs.Written.{written}
 use Rattle.request.proofs.Back.{decode-written}
 use Rattle.laws.proofs.Tested.{tested-table}
-use Rattle.laws.proofs.Split.{Is, is, isnt, test, clash, and-true}
-use Rattle.promises.specs.Refusals.{refusal, refusalIn}
+use Rattle.laws.proofs.Split.{is, isnt, test, and-true}
+use Rattle.promises.specs.Refusals.{refusalIn}
 use Rattle.promises.specs.Malformed.{Malformed}
-use Rattle.promises.specs.Demand1.{refusedWith, Accepted, Answered, Demand1}
+use Rattle.promises.specs.Demand1.{refusedWith, Demand1}
 use Rattle.promises.proofs.Refused.{says}
 use Rattle.promises.proofs.Malformed.{decodes}
 use Rattle.promises.proofs.Exactly.{not-7, not-8}

@@ -11,7 +11,7 @@ use lib.Dec.{eqb, ltb}
 use borrow.Author.Tests.{eqb-true, eqb-false, eq-eqb, ltb-true, ltb-false}
 use lib.ListN.{length, getD, getElem?, List·getD-eq-default}
 use Rattle.rules.specs.Table.{wordAt}
-use Rattle.rules.specs.Requests.{Operation, operations, requestLength, kept, decodeRequest}
+use Rattle.rules.specs.Requests.{Operation, operations, kept, decodeRequest}
 use Rattle.rules.specs.declared.Request.{Request}
 use Rattle.rules.specs.declared.Decoded.{Decoded}
 use Rattle.rules.specs.declared.Decoded.the-variants.{Asked, Bad}

@@ -1,6 +1,6 @@
 -- Document 01's condition for −8, written down apart from the decoder, byte by byte, so that it can disagree with it.
 -- "−8: record not 12 bytes, operation above 20, byte 3 or an unused field not zero"
-use mathlib.Core.Bool.{Bool, true, false, _||_}
+use mathlib.Core.Bool.{Bool, false, _||_}
 use mathlib.Core.Path.{_≡_}
 use mathlib.Core.List.{List, [], _∷_, _++_}
 use mathlib.Core.Logic.{_↔_}
@@ -13,7 +13,7 @@ use Rattle.rules.specs.declared.Decoded.the-variants.{Bad}
 use Rattle.request.specs.Written.{written}
 use Rattle.request.specs.Trips.{Bytes}
 
--- "Byte 0 operation; 1 object; 2 priority; 3 zero; 4-7 number; 8-11 data": the bytes of each field
+-- "Byte 0 operation; 1 object; 2 priority; 3 zero; 4-7 number; 8-11 data": the bytes of each field. The data is a parcel in the rules.
 abbrev object : List ℕ
 object = 1 ∷ []
 
@@ -26,7 +26,7 @@ number = 4 ∷ 5 ∷ 6 ∷ 7 ∷ []
 abbrev parcel : List ℕ
 parcel = 8 ∷ 9 ∷ 10 ∷ 11 ∷ []
 
--- the column "Uses", by the operation's number: the bytes that it may set
+-- the column "Uses", by the operation's number: the bytes of the fields that it uses
 unfoldable pub uses : List (List ℕ)
 uses =
     -- 0 Yield

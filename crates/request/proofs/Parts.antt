@@ -1,6 +1,6 @@
 -- A record asks a request exactly when it has 12 bytes, byte 3 is zero, the table has a line for its operation and each field is used or
 -- zero: these are the decoder's tests, one by one. Assumes nothing.
-use mathlib.Core.Path.{_≡_, refl, sym, _∙_}
+use mathlib.Core.Path.{_≡_, refl}
 use mathlib.Core.Bool.{Bool, true, false, _&&_}
 use mathlib.Core.List.{List}
 use mathlib.Core.Option.{Option, none, some}

@@ -3,7 +3,7 @@
 use mathlib.Core.Path.{_≡_, refl, sym, ap, _∙_}
 use mathlib.Core.Bool.{Bool, true, false}
 use mathlib.Core.List.{List, [], _∷_, _++_}
-use mathlib.Core.Option.{Option, none, some}
+use mathlib.Core.Option.{some}
 use Prim.Native.Nat.{ℕ, zero, suc, _+_}
 use native.Mathlib.Omega.{arith}
 use lib.ListN.{length, getD, getElem?}
@@ -17,7 +17,7 @@ use Rattle.laws.proofs.Words.{word-of}
 use Rattle.request.specs.Written.{fieldsOf, written}
 use Rattle.request.specs.Trips.{Bytes, Trips}
 use Rattle.request.proofs.Back.{decode-written}
-use Rattle.request.proofs.Parts.{Kept, Parts, made, parts-asked, parts-of}
+use Rattle.request.proofs.Parts.{Kept, made, parts-asked, parts-of}
 
 -- THE BYTES OF A RECORD
 
