@@ -4,6 +4,7 @@ pub mod Bitwise
 pub mod Reflect
 pub mod Counts
 pub mod Sums
+pub mod Words
 pub mod Lines
 pub mod Members
 pub mod Moves

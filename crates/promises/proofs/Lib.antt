@@ -1,7 +1,10 @@
 pub mod Refused
+pub mod Malformed
+pub mod Exactly
 pub mod First
 pub mod Second
 pub mod Third
 pub mod Figures
 pub mod Computed
 pub mod Incident
+pub mod Rejected

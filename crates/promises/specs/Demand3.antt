@@ -19,29 +19,31 @@ use Rattle.rules.specs.Door.{door, Handed}
 use Rattle.fairness.specs.Run.{Event, readyAt, sameSet, undisturbed, sumTurns, chargedTo, chargedRank}
 use Rattle.fairness.specs.Doors.{Door, runOf}
 
--- Where the demand speaks: a claim on a rank, the state at the start and a part of the run. Of an empty set it claims nothing, so that the
--- set need not be said not to be empty.
-abbrev pub InEveryPart : Board → Door → (ℕ → State → List Event → Type 0) → Type 0
-InEveryPart b d Claim =
-    (t : List ℕ) (hs : List Handed) (p : ℕ) (from steps : ℕ) →
+-- Where the demand speaks: a claim on a rank, the state at the start and a part of a run from table t. Of an empty set it claims nothing, so
+-- that the set need not be said not to be empty.
+abbrev pub InEveryPart : Board → List ℕ → List Event → (ℕ → State → List Event → Type 0) → Type 0
+InEveryPart b t run Claim =
+    (p : ℕ) (from steps : ℕ)
     -- "from any sound table"
-    SoundTable b t →
-    -- "over any run of requests and ticks"
-    let run = runOf b d t hs in
+    → SoundTable b t
     -- "is the same after each step"
-    all (sameSet p) run ≡ true
+    → all (sameSet p) run ≡ true
     -- "none of them yields and none is named in an accepted change of settings"
     → all (undisturbed p) run ≡ true
     -- "in every unbroken part of the run"
     → Claim p (decode b t) (take steps (drop from run))
 
--- what the demand says of a door
-abbrev pub FairDoor : Board → Door → Type 0
-FairDoor b d = InEveryPart b d (λ p s part.
+-- what the demand says of a run
+abbrev pub Fair : Board → List ℕ → List Event → Type 0
+Fair b t run = InEveryPart b t run (λ p s part.
     -- "the ticks charged to that rank equal the sum of the threads' turns"
     count (chargedRank p) part ≡ sumTurns p (s .threads)
     -- "each thread was charged exactly its own turn"
     → (i : ℕ) → readyAt p s i ≡ true → count (chargedTo i) part ≡ at (s .threads) i .turn)
+
+-- of a door: "over any run of requests and ticks"
+abbrev pub FairDoor : Board → Door → Type 0
+FairDoor b d = (t : List ℕ) (hs : List Handed) → Fair b t (runOf b d t hs)
 
 -- on a board of any number of threads
 abbrev pub Demand3 : Type 0
@@ -50,7 +52,7 @@ Demand3 = (b : Board) → FairDoor b (door b)
 -- THE SHARE. The demand speaks of one round; in k rounds each thread was charged k turns. So over whole rounds, of the ticks charged to the
 -- rank, a thread has its turn out of the sum of the turns.
 abbrev pub FairRounds : Board → Door → Type 0
-FairRounds b d = InEveryPart b d (λ p s part.
+FairRounds b d = (t : List ℕ) (hs : List Handed) → InEveryPart b t (runOf b d t hs) (λ p s part.
     (k : ℕ) → count (chargedRank p) part ≡ k * sumTurns p (s .threads)
     → (i : ℕ) → readyAt p s i ≡ true → count (chargedTo i) part ≡ k * at (s .threads) i .turn)
 

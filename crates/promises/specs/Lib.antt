@@ -1,8 +1,10 @@
 -- What is promised, for an auditor to read with document 01 beside it.
 pub mod Refusals
+pub mod Malformed
 pub mod Demand1
 pub mod Demand2
 pub mod Demand3
 pub mod Figures
 pub mod Rounds
 pub mod Incident
+pub mod Rejected

@@ -1,16 +1,12 @@
 -- A request that is written is read back, whatever its fields are: four bytes of a word say the word, and the table's line for its
 -- number keeps its fields. So the 21 operations and their fields are told apart. Assumes nothing.
 use mathlib.Core.Path.{_≡_, refl}
-use Prim.Native.Nat.{ℕ, _+_, _*_, _/_, _%_}
-use native.Mathlib.Omega.{arith}
 use Rattle.rules.specs.Requests.{requestOf, decodeRequest}
 use Rattle.rules.specs.declared.Decoded.the-variants.{Asked}
 use Rattle.rules.specs.declared.Request.{Request}
 use Rattle.rules.specs.declared.Request.the-variants as Ask
+use Rattle.laws.proofs.Words.{word-back}
 use Rattle.request.specs.Written.{fieldsOf, written}
-
-word-back : (x : ℕ) → x % 256 + 256 * (x / 256 % 256) + 65536 * (x / 65536 % 256) + 16777216 * (x / 16777216) ≡ x
-word-back x = omega arith
 
 fields-asked : (r : Request) → let f = fieldsOf r in requestOf (f .0) (f .1) (f .2) (f .3) (f .4) ≡ Asked r
 unfolding requestOf

@@ -1,2 +1,3 @@
 -- How a request is written.
 pub mod Written
+pub mod Trips

@@ -14,13 +14,14 @@ use Rattle.rules.specs.Semaphores.{doMake, doDrop, doPend, doAbort, posted, doP
 use Rattle.rules.specs.Time.{doLock, doUnlock, charge, charged, countDown, timeouts, doTick, doOutcome}
 use Rattle.rules.specs.Steps.{step}
 use Rattle.rules.specs.Door.{serveDecoded, door, fresh, freshTable}
+use Rattle.rules.proofs.Computing.{behindTheDoor}
 use Rattle.rules.specs.Trace.{served, short, records, traceFrom, trace}
 use Rattle.text.specs.Text.{ascii, digits, decimal, signed, lineText}
 use Rattle.text.specs.Puts.{lineRoom, shortRoom}
 use Rattle.text.specs.Example.{ExampleRun}
 
 pub example-run : ExampleRun
-unfolding leave join move topBelow top settle waitOf outcomeOf threadRow threadOf semRow semOf kernelRow flat encode rows decode placeOk freeOk usedOk threadOk semOk initOk kernelOk sound soundTable areaOf requestOf decodeRequest endWait serve block mustWait doYield doCreate deleted doDelete doSet doSuspend doResume doDelay breakOff doCancel delivered doSend doSendFromInterrupt emptied doReceive doMake doDrop doPend doAbort posted doPost doPostFromInterrupt doLock doUnlock charge charged countDown timeouts doTick doOutcome step serveDecoded door fresh freshTable records traceFrom trace digits decimal
+unfolding behindTheDoor records traceFrom trace digits decimal
 example-run = refl
 
 pub numbers :
