@@ -4,19 +4,11 @@ ghost use Rattle.rules.specs.Board.{printer};
 ghost use Rattle.rules.specs.Steps.{step};
 ghost use Rattle.rules.specs.Door.{door};
 ghost use Rattle.waiting.specs.Does.{Serves, Does};
+use rules::AREA;
 use rules::Answer;
 use rules::Decoded;
-use rules::Refusal;
 use rules::Request;
-
-// "An 8-byte answer area."
-const AREA: usize = 8;
-
-// "Table unsound, or answer area not 8 bytes."
-const BAD_TABLE: i32 = -7;
-
-// "Record not 12 bytes, operation above 20, byte 3 or an unused field not zero."
-const BAD_RECORD: i32 = -8;
+use rules::refused;
 
 // A step: each request by its own operation.
 fn step(t: &mut [u8], request: Request) -> Answer
@@ -76,19 +68,14 @@ pub extern "C" fn speltmallet_door(table: &mut [u8], request: &[u8], answer: &mu
     ensures area { λ _. ⌜ now (answer .exit) ≡ door printer (now (table .entry)) (now (request .entry)) (now (answer .entry)) .area ⌝ }
 {
     if answer.len() != AREA {
-        return BAD_TABLE;
+        return answer::code(refused::BAD_TABLE);
     }
     if !sound::sound(table) {
-        return BAD_TABLE;
+        return answer::code(refused::BAD_TABLE);
     }
     let Decoded::Asked { request: asked } = request::decode(request) else {
-        answer::put_answer(
-            answer,
-            Answer::Refused {
-                why: Refusal::BadRecord,
-            },
-        );
-        return BAD_RECORD;
+        answer::put_answer(answer, refused::BAD_RECORD);
+        return answer::code(refused::BAD_RECORD);
     };
     let given = step(table, asked);
     answer::put_answer(answer, given);

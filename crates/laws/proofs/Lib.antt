@@ -12,3 +12,4 @@ pub mod Places
 pub mod Records
 pub mod Tested
 pub mod Top
+pub mod Turns

@@ -3,6 +3,7 @@
 
 pub mod field;
 mod numbers;
+pub mod refused;
 
 pub use numbers::AREA;
 pub use numbers::KERNEL_FROM;

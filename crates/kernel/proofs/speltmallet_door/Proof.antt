@@ -28,7 +28,7 @@ use Rattle.kernel.proofs.speltmallet_door.Tie as tie
 serves : (t : List ℕ) → soundTable printer t ≡ true → Serves printer t
 serves t e =
     let h = tested-table printer t .0 e in
-    record { whole = record { long = h .long; meaning = h .meaning }; runs = omega (arith, sound-running (decode printer t) (h .state), on-decode printer t .threads) }
+    record { whole = record { long = h .long; meaning = h .meaning }; runs = omega (arith, sound-running (decode printer t) (h .state), on-decode printer t .threads); sound = h .state }
 
 -- what a step makes of it and answers is what the door says
 served : (t : List ℕ) (q : Request) {t′ : List ℕ} {a : Answer} → soundTable printer t ≡ true → Does printer t t′ a (λ s. step s q) → answered t′ a ≡ serveDecoded printer t (Asked q)

@@ -10,7 +10,7 @@ use Rattle.rules.specs.Board.{printer}
 use Rattle.layout.specs.Held.{Whole, Becomes, onThreads}
 use Rattle.layout.proofs.Held.{_⨾_, becomes-as, becomes-same, holds-on}
 use Rattle.lines.specs.Numbers.{lineNumber}
-use Rattle.lines.proofs.Turns.{mapTo, mapTo-none, mapTo-turn, mapTo-all}
+use Rattle.laws.proofs.Turns.{mapTo, mapTo-none, mapTo-turn, mapTo-all}
 use Rattle.lines.proofs.Standing.{nobody-moves}
 use Rattle.lines.proofs.Numbered.{none-of}
 use Rattle.lines.proofs.close_gap.Statement.{statement}

@@ -6,7 +6,7 @@ use Rattle.rules.specs.Board.{printer}
 use Rattle.rules.specs.Mail.{doSend}
 use Rattle.rules.specs.declared.Wait.the-variants.{Send}
 use Rattle.waiting.proofs.Doing.{does-nothing, does-as, then-does}
-use Rattle.threads.proofs.There.{read-there}
+use Rattle.waiting.proofs.There.{read-there}
 use Rattle.mail.proofs.send.Statement.{statement}
 use Rattle.mail.proofs.send.Tie as tie
 

@@ -4,7 +4,7 @@ use borrow.Author.Tests.{lt-ltb, le-ltb}
 use Rattle.rules.specs.Board.{printer}
 use Rattle.rules.specs.Mail.{doSendFromInterrupt}
 use Rattle.waiting.proofs.Doing.{does-nothing, then-does}
-use Rattle.threads.proofs.There.{read-there}
+use Rattle.waiting.proofs.There.{read-there}
 use Rattle.mail.proofs.send_from_interrupt.Statement.{statement}
 use Rattle.mail.proofs.send_from_interrupt.Tie as tie
 

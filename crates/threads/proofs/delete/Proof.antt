@@ -3,7 +3,7 @@ use borrow.Author.Needs.{needs}
 use Rattle.rules.specs.Threads.{doDelete}
 use Rattle.rules.specs.Board.{printer}
 use Rattle.waiting.proofs.Doing.{does-nothing, then-does}
-use Rattle.threads.proofs.There.{there}
+use Rattle.waiting.proofs.There.{there}
 use Rattle.threads.proofs.delete.Statement.{statement}
 use Rattle.threads.proofs.delete.Tie as tie
 

@@ -4,7 +4,7 @@ use borrow.Author.Needs.{needs}
 use Rattle.rules.specs.Threads.{doSet}
 use Rattle.rules.specs.Board.{printer, topPriority}
 use Rattle.waiting.proofs.Doing.{does-nothing, then-does}
-use Rattle.threads.proofs.There.{read-there}
+use Rattle.waiting.proofs.There.{read-there}
 use Rattle.threads.proofs.set.Statement.{statement}
 use Rattle.threads.proofs.set.Tie as tie
 

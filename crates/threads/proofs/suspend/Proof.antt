@@ -3,7 +3,7 @@ use borrow.Author.Needs.{needs}
 use Rattle.rules.specs.Threads.{doSuspend}
 use Rattle.rules.specs.Board.{printer}
 use Rattle.waiting.proofs.Doing.{does-nothing, then-does}
-use Rattle.threads.proofs.There.{read-there}
+use Rattle.waiting.proofs.There.{read-there}
 use Rattle.threads.proofs.suspend.Statement.{statement}
 use Rattle.threads.proofs.suspend.Tie as tie
 

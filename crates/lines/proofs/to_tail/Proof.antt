@@ -1,12 +1,12 @@
--- `threads::to_tail` meets its contract: a record that stays as it is makes a move too. Assumes nothing.
+-- `lines::to_tail` meets its contract: a record that stays as it is makes a move too. Assumes nothing.
 use mathlib.Core.Path.{sym, ap}
 use lib.Seq.{set-getD}
 use borrow.Author.Needs.{needs}
 use Rattle.rules.specs.Lines.{leave, join, move}
 use Rattle.rules.specs.State.{free, withThreads}
 use Rattle.layout.proofs.Held.{_⨾_, becomes-as}
-use Rattle.threads.proofs.to_tail.Statement.{statement}
-use Rattle.threads.proofs.to_tail.Tie as tie
+use Rattle.lines.proofs.to_tail.Statement.{statement}
+use Rattle.lines.proofs.to_tail.Tie as tie
 
 leave-requires : tie.Need-leave-requires
 leave-requires c κs = search needs

@@ -1,11 +1,11 @@
--- `threads::break_off` meets its contract: each way out is a branch of the rule. Assumes nothing.
+-- `waiting::break_off` meets its contract: each way out is a branch of the rule. Assumes nothing.
 use borrow.Author.Needs.{needs}
 use Rattle.rules.specs.Threads.{breakOff}
 use Rattle.rules.specs.Board.{printer}
 use Rattle.waiting.proofs.Doing.{does-nothing, then-does}
-use Rattle.threads.proofs.There.{there}
-use Rattle.threads.proofs.break_off.Statement.{statement}
-use Rattle.threads.proofs.break_off.Tie as tie
+use Rattle.waiting.proofs.There.{there}
+use Rattle.waiting.proofs.break_off.Statement.{statement}
+use Rattle.waiting.proofs.break_off.Tie as tie
 
 no-thread-requires : tie.Need-no-thread-requires
 no-thread-requires c κs = search needs
