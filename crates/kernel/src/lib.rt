@@ -1,6 +1,11 @@
 // The kernel: a request's step, and the one door that the firmware calls.
+ghost use mathlib.Core.Bool.{_&&_};
 ghost use mathlib.Core.Path.{_≡_};
+ghost use lib.Dec.{eqb};
+ghost use lib.ListN.{length};
 ghost use Rattle.rules.specs.Board.{printer};
+ghost use Rattle.rules.specs.Answers.{areaLength};
+ghost use Rattle.rules.specs.Test.{soundTable};
 ghost use Rattle.rules.specs.Steps.{step};
 ghost use Rattle.rules.specs.Door.{door};
 ghost use Rattle.waiting.specs.Does.{Serves, Does};
@@ -60,6 +65,16 @@ fn step(t: &mut [u8], request: Request) -> Answer
     }
 }
 
+// Can a call be served? −7 is given where it cannot: "table unsound, or answer area not 8 bytes".
+fn fits(table: &[u8], answer: &[u8]) -> bool
+    ensures { λ r. ⌜ r ≡ (eqb (length (now (answer .entry))) areaLength && soundTable printer (now (table .entry))) ⌝ }
+{
+    if answer.len() != AREA {
+        return false;
+    }
+    sound::sound(table)
+}
+
 // The door: for every table, record and answer area, whatever their lengths and bytes. The code is given back too.
 #[no_mangle]
 pub extern "C" fn speltmallet_door(table: &mut [u8], request: &[u8], answer: &mut [u8]) -> i32
@@ -67,10 +82,7 @@ pub extern "C" fn speltmallet_door(table: &mut [u8], request: &[u8], answer: &mu
     ensures table { λ _. ⌜ now (table .exit) ≡ door printer (now (table .entry)) (now (request .entry)) (now (answer .entry)) .table ⌝ }
     ensures area { λ _. ⌜ now (answer .exit) ≡ door printer (now (table .entry)) (now (request .entry)) (now (answer .entry)) .area ⌝ }
 {
-    if answer.len() != AREA {
-        return answer::code(refused::BAD_TABLE);
-    }
-    if !sound::sound(table) {
+    if !fits(table, answer) {
         return answer::code(refused::BAD_TABLE);
     }
     let Decoded::Asked { request: asked } = request::decode(request) else {

@@ -2,7 +2,6 @@
 //
 // The promises are those of crate `waiting`: `Becomes` for a change, `Does` for an operation.
 ghost use mathlib.Core.Bool.{true};
-ghost use mathlib.Core.Path.{_≡_};
 ghost use Prim.Native.Nat.{_<_};
 ghost use Rattle.rules.specs.Board.{printer};
 ghost use Rattle.rules.specs.State.{at, edit, withMail};

@@ -4,18 +4,12 @@
 // The promises are those of crate `waiting`: `Becomes` for a change, `Does` for an operation.
 ghost use mathlib.Core.Bool.{not, _&&_};
 ghost use mathlib.Core.Path.{_≡_};
-ghost use Prim.Native.Nat.{_<_};
 ghost use lib.Dec.{eqb};
-ghost use lib.ListN.{length};
-ghost use Rattle.rules.specs.Board.{printer, tableLength};
-ghost use Rattle.rules.specs.State.{State, at, isReady};
-ghost use Rattle.rules.specs.Table.{decode};
-ghost use Rattle.rules.specs.Lines.{move};
-ghost use Rattle.rules.specs.Threads.{noThread, breakOff, doYield, doCreate, doDelete, doSet, doSuspend, doResume, doDelay, doCancel};
-ghost use Rattle.layout.specs.Held.{Whole, Becomes, onThreads};
+ghost use Rattle.rules.specs.Board.{printer};
+ghost use Rattle.rules.specs.State.{isReady};
+ghost use Rattle.rules.specs.Threads.{doYield, doCreate, doDelete, doSet, doSuspend, doResume, doDelay, doCancel};
 ghost use Rattle.waiting.specs.Does.{Serves, Does};
 use rules::Answer;
-use rules::Outcome;
 use rules::THREADS;
 use rules::TOP_PRIORITY;
 use rules::Thread;

@@ -10,6 +10,7 @@ ghost use Rattle.rules.specs.State.{State, withWait, withOutcome};
 ghost use Rattle.rules.specs.Table.{decode};
 ghost use Rattle.rules.specs.Lines.{Line, move};
 ghost use Rattle.rules.specs.Waiting.{accept, endWait, serve, block, mayNotWait, waitCounter, mustWait};
+ghost use Rattle.rules.specs.Threads.{noThread, breakOff};
 ghost use Rattle.rules.specs.declared.Wait.{Wait};
 ghost use Rattle.layout.specs.Held.{Whole, Becomes, onThreads};
 ghost use Rattle.lines.specs.Numbers.{lineNumber};
