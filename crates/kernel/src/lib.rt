@@ -66,7 +66,7 @@ fn step(t: &mut [u8], request: Request) -> Answer
 }
 
 // Can a call be served? −7 is given where it cannot: "table unsound, or answer area not 8 bytes".
-fn fits(table: &[u8], answer: &[u8]) -> bool
+fn can_serve(table: &[u8], answer: &[u8]) -> bool
     ensures { λ r. ⌜ r ≡ (eqb (length (now (answer .entry))) areaLength && soundTable printer (now (table .entry))) ⌝ }
 {
     if answer.len() != AREA {
@@ -82,7 +82,7 @@ pub extern "C" fn speltmallet_door(table: &mut [u8], request: &[u8], answer: &mu
     ensures table { λ _. ⌜ now (table .exit) ≡ door printer (now (table .entry)) (now (request .entry)) (now (answer .entry)) .table ⌝ }
     ensures area { λ _. ⌜ now (answer .exit) ≡ door printer (now (table .entry)) (now (request .entry)) (now (answer .entry)) .area ⌝ }
 {
-    if !fits(table, answer) {
+    if !can_serve(table, answer) {
         return answer::code(refused::BAD_TABLE);
     }
     let Decoded::Asked { request: asked } = request::decode(request) else {

@@ -61,7 +61,7 @@ fn charged(t: &mut [u8])
     requires { ⌜ Serves printer (now t) ⌝ }
     ensures { λ _. ⌜ Becomes printer (now (t .entry)) (now (t .exit)) (λ s. withThreads (charged s) s) ⌝ }
 {
-    if records::lock(t) != 0 {
+    if records::lock(t) > 0 {
         return;
     }
     let r = records::running(t);
