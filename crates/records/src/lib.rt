@@ -1,4 +1,5 @@
-// The records of the table, in place: a thread's, a semaphore's and the kernel's. Nobody else knows where a byte stands.
+// The records of the table, in place: a thread's, a semaphore's and the kernel's. Everybody else reads and writes them through here, but for
+// the test of their bytes in crate `canon`.
 //
 // Every public function promises for all states at once. One that reads gives what the table says: for the state `s` with
 // `decode printer (now t) ≡ s`, whatever the bytes are. One that writes asks for a whole table, which holds the state that

@@ -75,6 +75,8 @@ pub fn serve(t: &mut [u8], n: u8, line: u16, outcome: Outcome)
     }
 }
 
+// A WAIT IS BROKEN OFF
+
 // "Thread number above 15, or free."
 pub fn no_thread(t: &[u8], i: u8) -> bool
     requires { ⌜ length (now t) ≡ tableLength printer ⌝ }

@@ -43,8 +43,9 @@ loop-less c = omega arith
 
 loop-again : tie.Need-loop-again Inv-loop μ-loop
 loop-again c =
+    let start = c .before .before .before .before .before .before .before .before in
     let turn = c .before .before .move-up .ensures in
-    let q = c .before .before .before .before .before .before .before .before .args .place in (
+    let q = start .args .place in (
       omega arith,
       turn .0,
       λ l e. becomes-as (c .before .before .before .before .before .loop .inv .2 l e ⨾ turn .1 l e)

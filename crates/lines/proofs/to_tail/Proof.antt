@@ -19,7 +19,9 @@ same-length c = search needs
 
 returns : tie.Need-returns
 unfolding move
-returns c = becomes-as (c .before .before .before .before .before .before .leave .ensures ⨾ c .before .before .join .ensures .1) (λ s h. ap (λ ts. withThreads (join (c .before .before .before .before .before .before .before .before .before .args .i) ts) s) (sym (set-getD (leave (c .before .before .before .before .before .before .before .before .before .args .i) (s .threads)) (c .before .before .before .before .before .before .before .before .before .args .i) free)))
+returns c =
+    let start = c .before .before .before .before .before .before .before .before .before in
+    becomes-as (c .before .before .before .before .before .before .leave .ensures ⨾ c .before .before .join .ensures .1) (λ s h. ap (λ ts. withThreads (join (start .args .i) ts) s) (sym (set-getD (leave (start .args .i) (s .threads)) (start .args .i) free)))
 
 pub to-tail-spec : {M : Type 1} → statement M
 to-tail-spec = tie.close (tie.spec leave-requires join-requires same-length returns)

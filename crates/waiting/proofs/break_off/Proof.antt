@@ -35,7 +35,11 @@ same-length-3 c = search needs
 
 returns-3 : tie.Need-returns-3
 unfolding breakOff
-returns-3 c = then-does (c .before .before .before .before .before .before .end-wait .ensures) (c .before .before .accept .ensures) (λ s h. rw (← c .before .before .before .before .before .before .before .before .before .before .no-thread .ensures s (h .says), c .before .before .before .before .before .before .before .before .before .if1 .left, c .before .before .before .before .before .before .before .before .if2 .left))
+returns-3 c =
+    let no-thread = c .before .before .before .before .before .before .before .before .before .before .no-thread in
+    let if1 = c .before .before .before .before .before .before .before .before .before .if1 in
+    let if2 = c .before .before .before .before .before .before .before .before .if2 in
+    then-does (c .before .before .before .before .before .before .end-wait .ensures) (c .before .before .accept .ensures) (λ s h. rw (← no-thread .ensures s (h .says), if1 .left, if2 .left))
 
 pub break-off-spec : {M : Type 1} → statement M
 break-off-spec =
