@@ -8,13 +8,10 @@ ghost use Rattle.rules.specs.Board.{printer, recordLength, tableLength};
 ghost use Rattle.layout.specs.Bytes.{semsFrom, kernelFrom};
 ghost use Rattle.layout.specs.Canon.{waitCanon, outcomeCanon, headCanon, threadCanon, restZero, semCanon};
 ghost use Rattle.canon.specs.Zero.{recordZero};
-
-// "25 records of 24 bytes": a record's length, and where the first semaphore's and the kernel's start.
-const RECORD: usize = 24;
-
-const SEMAPHORES: usize = 384;
-
-const KERNEL: usize = 576;
+use rules::KERNEL_FROM;
+use rules::RECORD;
+use rules::SEMAPHORES_FROM;
+use rules::field;
 
 // ZEROS
 
@@ -86,12 +83,12 @@ pub fn thread_canon(t: &[u8], i: usize) -> bool
 {
     let base = i * RECORD;
     head_canon(
-        t[base],
-        t[base + 2],
-        t[base + 3],
-        t[base + 4],
-        t[base + 6],
-        t[base + 7],
+        t[base + field::USED],
+        t[base + field::SUSPENDED],
+        t[base + field::KIND],
+        t[base + field::OBJECT],
+        t[base + field::FULL],
+        t[base + field::OUTCOME],
     )
 }
 
@@ -100,8 +97,8 @@ pub fn sem_canon(t: &[u8], k: usize) -> bool
     requires { ⌜ (k < printer .sems) × (length (now t) ≡ tableLength printer) ⌝ }
     ensures { λ r. ⌜ r ≡ semCanon (now (t .entry)) (semsFrom printer + k * recordLength) ⌝ }
 {
-    let base = SEMAPHORES + k * RECORD;
-    if t[base] > 1 {
+    let base = SEMAPHORES_FROM + k * RECORD;
+    if t[base + field::USED] > 1 {
         return false;
     }
     rest_zero(t, base)
@@ -112,5 +109,5 @@ pub fn kernel_canon(t: &[u8]) -> bool
     requires { ⌜ length (now t) ≡ tableLength printer ⌝ }
     ensures { λ r. ⌜ r ≡ restZero (now (t .entry)) (kernelFrom printer) ⌝ }
 {
-    rest_zero(t, KERNEL)
+    rest_zero(t, KERNEL_FROM)
 }

@@ -1,22 +1,19 @@
 // The kernel: a request's step, and the one door that the firmware calls.
+ghost use mathlib.Core.Bool.{_&&_};
 ghost use mathlib.Core.Path.{_≡_};
+ghost use lib.Dec.{eqb};
+ghost use lib.ListN.{length};
 ghost use Rattle.rules.specs.Board.{printer};
+ghost use Rattle.rules.specs.Answers.{areaLength};
+ghost use Rattle.rules.specs.Test.{soundTable};
 ghost use Rattle.rules.specs.Steps.{step};
 ghost use Rattle.rules.specs.Door.{door};
 ghost use Rattle.waiting.specs.Does.{Serves, Does};
+use rules::AREA;
 use rules::Answer;
 use rules::Decoded;
-use rules::Refusal;
 use rules::Request;
-
-// "An 8-byte answer area."
-const AREA: usize = 8;
-
-// "Table unsound, or answer area not 8 bytes."
-const BAD_TABLE: i32 = -7;
-
-// "Record not 12 bytes, operation above 20, byte 3 or an unused field not zero."
-const BAD_RECORD: i32 = -8;
+use rules::refused;
 
 // A step: each request by its own operation.
 fn step(t: &mut [u8], request: Request) -> Answer
@@ -68,6 +65,16 @@ fn step(t: &mut [u8], request: Request) -> Answer
     }
 }
 
+// Can a call be served? −7 is given where it cannot: "table unsound, or answer area not 8 bytes".
+fn can_serve(table: &[u8], answer: &[u8]) -> bool
+    ensures { λ r. ⌜ r ≡ (eqb (length (now (answer .entry))) areaLength && soundTable printer (now (table .entry))) ⌝ }
+{
+    if answer.len() != AREA {
+        return false;
+    }
+    sound::sound(table)
+}
+
 // The door: for every table, record and answer area, whatever their lengths and bytes. The code is given back too.
 #[no_mangle]
 pub extern "C" fn speltmallet_door(table: &mut [u8], request: &[u8], answer: &mut [u8]) -> i32
@@ -75,20 +82,12 @@ pub extern "C" fn speltmallet_door(table: &mut [u8], request: &[u8], answer: &mu
     ensures table { λ _. ⌜ now (table .exit) ≡ door printer (now (table .entry)) (now (request .entry)) (now (answer .entry)) .table ⌝ }
     ensures area { λ _. ⌜ now (answer .exit) ≡ door printer (now (table .entry)) (now (request .entry)) (now (answer .entry)) .area ⌝ }
 {
-    if answer.len() != AREA {
-        return BAD_TABLE;
-    }
-    if !sound::sound(table) {
-        return BAD_TABLE;
+    if !can_serve(table, answer) {
+        return answer::code(refused::BAD_TABLE);
     }
     let Decoded::Asked { request: asked } = request::decode(request) else {
-        answer::put_answer(
-            answer,
-            Answer::Refused {
-                why: Refusal::BadRecord,
-            },
-        );
-        return BAD_RECORD;
+        answer::put_answer(answer, refused::BAD_RECORD);
+        return answer::code(refused::BAD_RECORD);
     };
     let given = step(table, asked);
     answer::put_answer(answer, given);

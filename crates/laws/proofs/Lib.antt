@@ -13,3 +13,4 @@ pub mod Places
 pub mod Records
 pub mod Tested
 pub mod Top
+pub mod Turns

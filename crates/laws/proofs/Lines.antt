@@ -1,12 +1,12 @@
 -- What the tests of lines say, and which changes of a record leave its line alone: by cases on the wait. Assumes nothing.
 use mathlib.Core.Bool.{Bool, true, false, not, _&&_}
-use mathlib.Core.Path.{_≡_, refl, ap, sym, _∙_}
+use mathlib.Core.Path.{_≡_, refl, ap, sym}
 use mathlib.Core.Logic.{_↔_}
 use Prim.Native.Nat.{ℕ}
 use lib.Dec.{eqb}
 use borrow.Author.Tests.{eqb-true, eq-eqb, not-false}
 use Rattle.rules.specs.Basic.{if_then_else_}
-use Rattle.rules.specs.State.{waiting, isReady, withPlace, withCounter, withCounterOf, withSuspended, withSettings}
+use Rattle.rules.specs.State.{waiting, isReady, withCounter, withCounterOf, withSuspended, withSettings}
 use Rattle.rules.specs.Test.{isNowhere}
 use Rattle.rules.specs.Lines.{Line, nowhere, ready, waiters, senders, same, waitLine, line, inLine, filled}
 use Rattle.rules.specs.declared.Thread.{Thread}
@@ -138,9 +138,6 @@ filled-field f t e = if-case (λ (u : Thread). f u ≡ f t) (isReady t) (λ a. e
 
 pub line-filled : (t : Thread) → line (filled t) ≡ line t
 line-filled t = filled-field line t (line-counter (t .turn) t)
-
-pub ready-filled : (t : Thread) → isReady (filled t) ≡ isReady t
-ready-filled t = filled-field isReady t (ready-counter (t .turn) t)
 
 -- new settings, unless a ready thread gets another priority
 pub line-settings : (p n : ℕ) (t : Thread) → isReady t && not (eqb (t .priority) p) ≡ false → line (withSettings p n t) ≡ line t

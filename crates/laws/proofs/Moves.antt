@@ -1,21 +1,20 @@
 -- `leave`, `join` and `move`, thread by thread: whoever stands behind moves up, and the one that moves takes the tail.
 -- No other proof opens them. Assumes nothing.
-use mathlib.Core.Bool.{Bool, true, false, _&&_}
-use mathlib.Core.Path.{_≡_, refl, ap, sym, _∙_}
+use mathlib.Core.Bool.{true, false, _&&_}
+use mathlib.Core.Path.{_≡_, refl, ap, _∙_}
 use mathlib.Core.Logic.{_≢_}
-use mathlib.Core.List.{List, [], _∷_, map}
-use Prim.Native.Nat.{ℕ, zero, suc, pred, _≤_, _<_}
+use mathlib.Core.List.{List}
+use Prim.Native.Nat.{ℕ, pred, _≤_, _<_}
 use native.Mathlib.Omega.{arith}
 use native.Mathlib.Decide.{decLe}
 use lib.Dec.{ltb}
 use borrow.Author.Tests.{le-ltb, lt-ltb}
 use lib.ListN.{length, length-map, List·getD-eq-default}
-use lib.Seq.{set-out, ext-getD}
-use Rattle.rules.specs.Basic.{if_then_else_}
+use lib.Seq.{ext-getD}
 use Rattle.rules.specs.State.{free, at, edit, withPlace}
 use Rattle.rules.specs.Lines.{Line, line, inLine, lineLength, moveUp, leave, filled, tailPlace, join, move}
 use Rattle.rules.specs.declared.Thread.{Thread}
-use Rattle.laws.proofs.Split.{Is, is, isnt, test, clash, if-case}
+use Rattle.laws.proofs.Split.{is, isnt, test, clash, if-case}
 use Rattle.laws.proofs.Lines.{same-nowhere}
 use Rattle.laws.proofs.Members.{edit-same, edit-other, length-edit, map-at}
 

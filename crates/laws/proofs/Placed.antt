@@ -8,7 +8,7 @@ use Prim.Native.Nat.{ℕ, suc, pred, _+_, _≤_, _<_}
 use native.Mathlib.Omega.{arith}
 use native.Mathlib.Decide.{ℕ-discrete, decLt}
 use lib.ListN.{length}
-use Rattle.rules.specs.Basic.{bit, count}
+use Rattle.rules.specs.Basic.{bit}
 use Rattle.rules.specs.State.{at, withPlace}
 use Rattle.rules.specs.Lines.{Line, nowhere, line, inLine, same, lineLength, moveUp, filled, move}
 use Rattle.rules.specs.Sound.{Lines}
@@ -16,7 +16,7 @@ use Rattle.rules.specs.declared.Thread.{Thread}
 use Rattle.laws.proofs.Split.{is, isnt, test, clash}
 use Rattle.laws.proofs.Lines.{same-eq, same-nowhere, line-filled, filled-field}
 use Rattle.laws.proofs.Members.{count-ext, count-change, count-pos}
-use Rattle.laws.proofs.Moves.{Shifted, stays, steps, shifted, moveUp-field, moveUp-not, move-other, move-self, length-move, changed, changed-self, changed-other, length-changed}
+use Rattle.laws.proofs.Moves.{stays, steps, shifted, moveUp-field, moveUp-not, move-other, move-self, length-move, changed, changed-self, changed-other, length-changed}
 
 pub count-nowhere : (ts : List Thread) → lineLength nowhere ts ≡ 0
 count-nowhere [] = refl

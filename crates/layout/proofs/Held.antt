@@ -28,10 +28,6 @@ module _ {b : Board} {t : List ℕ} where
   pub holds-on : {s : State} → Holds b t s → On b s
   holds-on h = said-on b t (h .says)
 
-  -- a table holds one state
-  pub holds-one : {s s′ : State} → Holds b t s → Holds b t s′ → s ≡ s′
-  holds-one h h′ = sym (h .says) ∙ h′ .says
-
   pub holds-whole : {s : State} → Holds b t s → Whole b t
   holds-whole h = record { long = ap length (h .bytes) ∙ length-encode (holds-on h); meaning = h .bytes ∙ ap encode (sym (h .says)) }
 

@@ -8,20 +8,16 @@ ghost use lib.ListN.{length};
 ghost use mathlib.Core.List.{map};
 ghost use Rattle.rules.specs.Basic.{bit};
 ghost use Rattle.rules.specs.Board.{printer, tableLength, topPriority};
-ghost use Rattle.rules.specs.State.{State, at, waiting, isReady, edit};
-ghost use Rattle.rules.specs.Lines.{Line, ready, waiters, senders, waitLine, line, inLine, lineLength, isFirst, first, moveUp, leave, filled, tailPlace, join, top, settle};
+ghost use Rattle.rules.specs.State.{State, at, isReady, edit};
+ghost use Rattle.rules.specs.Lines.{Line, ready, waiters, senders, waitLine, line, inLine, lineLength, isFirst, first, moveUp, leave, filled, tailPlace, join, move, top, settle};
 ghost use Rattle.rules.specs.Table.{decode};
 ghost use Rattle.layout.specs.Held.{Whole, Becomes, onThreads};
 ghost use Rattle.lines.specs.Numbers.{lineNumber};
 ghost use Rattle.lines.specs.Priorities.{AtMost};
+use rules::THREADS;
+use rules::TOP_PRIORITY;
 use rules::Thread;
 use rules::Wait;
-
-// How many threads there are.
-const THREADS: usize = 16;
-
-// "Priorities 0 to 31."
-const TOP_PRIORITY: u8 = 31;
 
 // LINES BY NUMBER
 
@@ -88,19 +84,6 @@ fn in_line(th: Thread, line: u16) -> bool
     own == line
 }
 
-// Does a wait wait for something?
-pub fn is_waiting(w: Wait) -> bool
-    ensures { λ r. ⌜ r ≡ waiting w ⌝ }
-{
-    match w {
-        Wait::Nothing { counter: _ } => false,
-        Wait::Delay { counter: _ } => true,
-        Wait::Receive { counter: _ } => true,
-        Wait::Send { to: _, counter: _ } => true,
-        Wait::Semaphore { on: _, counter: _ } => true,
-    }
-}
-
 // "A thread is ready when in use, not suspended, not waiting."
 pub fn is_ready(th: Thread) -> bool
     ensures { λ r. ⌜ r ≡ isReady th ⌝ }
@@ -112,7 +95,7 @@ pub fn is_ready(th: Thread) -> bool
     if th.suspended {
         return false;
     }
-    !is_waiting(w)
+    !records::is_waiting(w)
 }
 
 // A THREAD LEAVES ITS LINE
@@ -206,6 +189,15 @@ pub fn join(t: &mut [u8], i: usize) -> u8
     records::set_place(t, i, place);
     fill(t, i);
     place
+}
+
+// Thread `i` goes to the tail of its line with a full counter.
+pub fn to_tail(t: &mut [u8], i: usize)
+    requires { ⌜ (i < printer .threads) × Whole printer (now t) ⌝ }
+    ensures { λ _. ⌜ Becomes printer (now (t .entry)) (now (t .exit)) (onThreads (move i (λ x. x))) ⌝ }
+{
+    leave(t, i);
+    join(t, i);
 }
 
 // WHO IS FIRST

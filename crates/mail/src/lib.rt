@@ -2,10 +2,9 @@
 //
 // The promises are those of crate `waiting`: `Becomes` for a change, `Does` for an operation.
 ghost use mathlib.Core.Bool.{true};
-ghost use mathlib.Core.Path.{_≡_};
 ghost use Prim.Native.Nat.{_<_};
 ghost use Rattle.rules.specs.Board.{printer};
-ghost use Rattle.rules.specs.State.{at, edit, receiving, withMail};
+ghost use Rattle.rules.specs.State.{at, edit, withMail};
 ghost use Rattle.rules.specs.Waiting.{endWait};
 ghost use Rattle.rules.specs.Mail.{delivered, emptied, doSend, doSendFromInterrupt, doReceive};
 ghost use Rattle.rules.specs.declared.Outcome.the-variants.{Done};
@@ -13,26 +12,11 @@ ghost use Rattle.layout.specs.Held.{Whole, Becomes, onThreads};
 ghost use Rattle.waiting.specs.Does.{Serves, Does};
 use rules::Answer;
 use rules::Outcome;
-use rules::Refusal;
+use rules::THREADS;
 use rules::Wait;
-
-// How many threads there are.
-const THREADS: usize = 16;
+use rules::refused;
 
 // SEND
-
-// Does a wait wait to receive?
-fn is_receiving(w: Wait) -> bool
-    ensures { λ r. ⌜ r ≡ receiving w ⌝ }
-{
-    match w {
-        Wait::Nothing { counter: _ } => false,
-        Wait::Delay { counter: _ } => false,
-        Wait::Receive { counter: _ } => true,
-        Wait::Send { to: _, counter: _ } => false,
-        Wait::Semaphore { on: _, counter: _ } => false,
-    }
-}
 
 // The parcel goes to thread `i`: it ends the wait of a thread that waits to receive, and fills the mailbox of another.
 fn deliver(t: &mut [u8], i: usize, parcel: u32)
@@ -41,7 +25,7 @@ fn deliver(t: &mut [u8], i: usize, parcel: u32)
 {
     let th = records::load_thread(t, i);
     let w = th.wait;
-    if is_receiving(w) {
+    if records::is_receiving(w) {
         waiting::end_wait(t, i, Outcome::Done, parcel);
     } else {
         records::set_mail(t, i, true, parcel);
@@ -53,17 +37,13 @@ pub fn send(t: &mut [u8], i: u8, n: u32, parcel: u32) -> Answer
     requires { ⌜ Serves printer (now t) ⌝ }
     ensures { λ r. ⌜ Does printer (now (t .entry)) (now (t .exit)) r (λ s. doSend s i n parcel) ⌝ }
 {
-    let th = threads::thread_at(t, i);
+    let th = records::thread_at(t, i);
     if !th.used {
-        return Answer::Refused {
-            why: Refusal::BadThread,
-        };
+        return refused::BAD_THREAD;
     }
     let k = i as usize;
     if k == records::running(t) {
-        return Answer::Refused {
-            why: Refusal::BadOperation,
-        };
+        return refused::BAD_OPERATION;
     }
     if th.full {
         let counter = waiting::wait_counter(n);
@@ -78,21 +58,15 @@ pub fn send_from_interrupt(t: &mut [u8], i: u8, parcel: u32) -> Answer
     requires { ⌜ Serves printer (now t) ⌝ }
     ensures { λ r. ⌜ Does printer (now (t .entry)) (now (t .exit)) r (λ s. doSendFromInterrupt s i parcel) ⌝ }
 {
-    let th = threads::thread_at(t, i);
+    let th = records::thread_at(t, i);
     if !th.used {
-        return Answer::Refused {
-            why: Refusal::BadThread,
-        };
+        return refused::BAD_THREAD;
     }
     if records::lock(t) > 0 {
-        return Answer::Refused {
-            why: Refusal::BadOperation,
-        };
+        return refused::BAD_OPERATION;
     }
     if th.full {
-        return Answer::Refused {
-            why: Refusal::BadOperation,
-        };
+        return refused::BAD_OPERATION;
     }
     deliver(t, i as usize, parcel);
     waiting::accept(t, 0)

@@ -23,7 +23,7 @@ use Rattle.laws.proofs.Lines.{same-self}
 use Rattle.laws.proofs.Reflect.{reflect}
 use Rattle.laws.proofs.Counts.{count-in, count-some, count-split}
 use Rattle.laws.proofs.Places.{stands, upTo, up-one}
-use Rattle.lines.proofs.Turns.{count-turn}
+use Rattle.laws.proofs.Turns.{count-turn}
 use Rattle.places.specs.Taken.{bitAt, Taken, Closed, vacant, taking, noGap, unshared}
 use Rattle.places.proofs.Bits.{bit-none, bit-most, bit-added, closed-or}
 

@@ -10,7 +10,7 @@ ghost use Rattle.rules.specs.Board.{printer};
 ghost use Rattle.places.specs.Taken.{bitAt, vacant, taking, noGap};
 
 // How many places a line can have: one for each thread.
-const PLACES: u8 = 16;
+const PLACES: u8 = rules::THREADS as u8;
 
 // The word in which only bit `q` is set.
 fn only(q: u8) -> u16

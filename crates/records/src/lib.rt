@@ -1,4 +1,5 @@
-// The records of the table, in place: a thread's, a semaphore's and the kernel's. Nobody else knows where a byte stands.
+// The records of the table, in place: a thread's, a semaphore's and the kernel's. Everybody else reads and writes them through here, but for
+// the test of their bytes in crate `canon`.
 //
 // Every public function promises for all states at once. One that reads gives what the table says: for the state `s` with
 // `decode printer (now t) ≡ s`, whatever the bytes are. One that writes asks for a whole table, which holds the state that
@@ -9,7 +10,7 @@ ghost use Prim.Native.Nat.{_<_};
 ghost use lib.ListN.{length, set};
 ghost use Rattle.rules.specs.Basic.{bit};
 ghost use Rattle.rules.specs.Board.{printer, tableLength};
-ghost use Rattle.rules.specs.State.{State, free, at, semAt, counterOf, edit, withPlace, withWait, withCounter, withSuspended, withOutcome, withMail, withSettings, withRunning, withLock};
+ghost use Rattle.rules.specs.State.{State, free, at, semAt, edit, withPlace, withWait, withCounter, withSuspended, withOutcome, withMail, withSettings, withRunning, withLock};
 ghost use Rattle.rules.specs.Table.{kindOf, objectOf, waitOf, outcomeByte, outcomeOf, decode};
 ghost use Rattle.records.specs.Fields.{withUsed};
 ghost use Rattle.layout.specs.Held.{Whole, Becomes, onThreads, onSems};
@@ -17,9 +18,19 @@ use rules::Outcome;
 use rules::RECORD;
 use rules::SEMAPHORES_FROM;
 use rules::Sem;
+use rules::THREADS;
 use rules::Thread;
 use rules::Wait;
 use rules::field;
+
+mod waits;
+
+pub use waits::counter_of;
+pub use waits::is_delaying;
+pub use waits::is_pending;
+pub use waits::is_receiving;
+pub use waits::is_sending;
+pub use waits::is_waiting;
 
 // The bytes of the kernel's record.
 const RUNNING: usize = rules::KERNEL_FROM + field::RUNNING;
@@ -70,19 +81,6 @@ fn object_of(w: Wait) -> u8
     }
 }
 
-// What is left of a wait, or of a turn.
-pub fn counter_of(w: Wait) -> u32
-    ensures { λ r. ⌜ r ≡ counterOf w ⌝ }
-{
-    match w {
-        Wait::Nothing { counter } => counter,
-        Wait::Delay { counter } => counter,
-        Wait::Receive { counter } => counter,
-        Wait::Send { to: _, counter } => counter,
-        Wait::Semaphore { on: _, counter } => counter,
-    }
-}
-
 fn outcome_of(byte: u8) -> Outcome
     ensures { λ r. ⌜ r ≡ outcomeOf byte ⌝ }
 {
@@ -111,6 +109,20 @@ fn flag(b: bool) -> u8
 
 // THREADS
 
+// "A free record is all zero (its outcome too, though 0 otherwise means done)."
+const FREE: Thread = Thread {
+    used: false,
+    priority: 0,
+    suspended: false,
+    wait: Wait::Nothing { counter: 0 },
+    place: 0,
+    full: false,
+    outcome: Outcome::Done,
+    turn: 0,
+    value: 0,
+    parcel: 0,
+};
+
 // Thread `i`.
 pub fn load_thread(t: &[u8], i: usize) -> Thread
     requires { ⌜ (i < printer .threads) × (length (now t) ≡ tableLength printer) ⌝ }
@@ -135,6 +147,18 @@ pub fn load_thread(t: &[u8], i: usize) -> Thread
         value,
         parcel,
     }
+}
+
+// Thread `i`, by the number that a request gives: one out of range reads as a free record.
+pub fn thread_at(t: &[u8], i: u8) -> Thread
+    requires { ⌜ length (now t) ≡ tableLength printer ⌝ }
+    ensures { λ r. ⌜ ((s : State) → decode printer (now (t .entry)) ≡ s → r ≡ at (s .threads) i) ⌝ }
+{
+    let k = i as usize;
+    if k >= THREADS {
+        return FREE;
+    }
+    load_thread(t, k)
 }
 
 // The place of thread `i`.
@@ -231,22 +255,7 @@ pub fn free_thread(t: &mut [u8], i: usize)
     requires { ⌜ (i < printer .threads) × Whole printer (now t) ⌝ }
     ensures { λ _. ⌜ Becomes printer (now (t .entry)) (now (t .exit)) (onThreads (edit i (λ x. free))) ⌝ }
 {
-    store_thread(
-        t,
-        i,
-        Thread {
-            used: false,
-            priority: 0,
-            suspended: false,
-            wait: Wait::Nothing { counter: 0 },
-            place: 0,
-            full: false,
-            outcome: Outcome::Done,
-            turn: 0,
-            value: 0,
-            parcel: 0,
-        },
-    );
+    store_thread(t, i, FREE);
 }
 
 // SEMAPHORES

@@ -1,8 +1,10 @@
-// The words of document 01 as types: what a table holds, what is asked of it, and what is answered.
+// The words of document 01 as types: what a table holds, what is asked of it, and what is answered. Its numbers stand in `numbers`, where
+// the fields of a record stand in `field`, and its refusals as answers in `refused`.
 // What they mean is said in specs/, in definitions that compute; there is no code here.
 
 pub mod field;
 mod numbers;
+pub mod refused;
 
 pub use numbers::AREA;
 pub use numbers::KERNEL_FROM;

@@ -8,22 +8,20 @@ ghost use Prim.Native.Nat.{_+_, _<_, min};
 ghost use lib.Dec.{eqb, ltb};
 ghost use lib.ListN.{length};
 ghost use Rattle.rules.specs.Board.{printer, tableLength, mostCount};
-ghost use Rattle.rules.specs.State.{State, semAt, pending};
+ghost use Rattle.rules.specs.State.{State, semAt};
 ghost use Rattle.rules.specs.Table.{decode};
 ghost use Rattle.rules.specs.Semaphores.{withCount, doMake, doDrop, doPend, doAbort, doPost, doPostFromInterrupt};
 ghost use Rattle.layout.specs.Held.{Whole, Becomes};
 ghost use Rattle.waiting.specs.Does.{Serves, Does};
 use rules::Answer;
 use rules::Outcome;
-use rules::Refusal;
+use rules::SEMAPHORES;
 use rules::Sem;
 use rules::Wait;
+use rules::refused;
 
-// How many semaphores there are.
-const SEMAPHORES: usize = 8;
-
-// "Semaphore count 0 to 99."
-const MOST_COUNT: u32 = 99;
+// "Semaphore count 0 to 99": the most of it, as a request's number.
+const MOST_COUNT: u32 = rules::MOST_COUNT as u32;
 
 // SEMAPHORES BY NUMBER
 
@@ -59,20 +57,14 @@ pub fn make(t: &mut [u8], k: u8, n: u32) -> Answer
 {
     let j = k as usize;
     if j >= SEMAPHORES {
-        return Answer::Refused {
-            why: Refusal::BadSemaphore,
-        };
+        return refused::BAD_SEMAPHORE;
     }
     let e = records::load_sem(t, j);
     if e.used {
-        return Answer::Refused {
-            why: Refusal::BadSemaphore,
-        };
+        return refused::BAD_SEMAPHORE;
     }
     if n > MOST_COUNT {
-        return Answer::Refused {
-            why: Refusal::BadOperation,
-        };
+        return refused::BAD_OPERATION;
     }
     set_count(t, j, n as u8);
     waiting::accept(t, 0)
@@ -85,9 +77,7 @@ pub fn drop_semaphore(t: &mut [u8], k: u8) -> Answer
 {
     let e = sem_at(t, k);
     if !e.used {
-        return Answer::Refused {
-            why: Refusal::BadSemaphore,
-        };
+        return refused::BAD_SEMAPHORE;
     }
     let line = lines::waiters_line(k);
     let n = lines::line_length(t, line);
@@ -112,9 +102,7 @@ pub fn pend(t: &mut [u8], k: u8, n: u32) -> Answer
 {
     let e = sem_at(t, k);
     if !e.used {
-        return Answer::Refused {
-            why: Refusal::BadSemaphore,
-        };
+        return refused::BAD_SEMAPHORE;
     }
     if e.count > 0 {
         let left = e.count - 1;
@@ -125,27 +113,14 @@ pub fn pend(t: &mut [u8], k: u8, n: u32) -> Answer
     waiting::must_wait(t, n, Wait::Semaphore { on: k, counter }, 0)
 }
 
-// Does a wait wait on a semaphore?
-fn is_pending(w: Wait) -> bool
-    ensures { λ r. ⌜ r ≡ pending w ⌝ }
-{
-    match w {
-        Wait::Nothing { counter: _ } => false,
-        Wait::Delay { counter: _ } => false,
-        Wait::Receive { counter: _ } => false,
-        Wait::Send { to: _, counter: _ } => false,
-        Wait::Semaphore { on: _, counter: _ } => true,
-    }
-}
-
 // A wait on a semaphore is broken off.
 pub fn abort(t: &mut [u8], i: u8) -> Answer
     requires { ⌜ Serves printer (now t) ⌝ }
     ensures { λ r. ⌜ Does printer (now (t .entry)) (now (t .exit)) r (λ s. doAbort s i) ⌝ }
 {
-    let th = threads::thread_at(t, i);
+    let th = records::thread_at(t, i);
     let w = th.wait;
-    threads::break_off(t, i, is_pending(w))
+    waiting::break_off(t, i, records::is_pending(w))
 }
 
 // POST
@@ -177,14 +152,10 @@ pub fn post(t: &mut [u8], k: u8, n: u32) -> Answer
 {
     let e = sem_at(t, k);
     if !e.used {
-        return Answer::Refused {
-            why: Refusal::BadSemaphore,
-        };
+        return refused::BAD_SEMAPHORE;
     }
     if too_many(e.count, n) {
-        return Answer::Refused {
-            why: Refusal::BadOperation,
-        };
+        return refused::BAD_OPERATION;
     }
     let units = n as u8;
     let line = lines::waiters_line(k);
@@ -201,14 +172,10 @@ pub fn post_from_interrupt(t: &mut [u8], k: u8, n: u32) -> Answer
 {
     let e = sem_at(t, k);
     if !e.used {
-        return Answer::Refused {
-            why: Refusal::BadSemaphore,
-        };
+        return refused::BAD_SEMAPHORE;
     }
     if records::lock(t) > 0 {
-        return Answer::Refused {
-            why: Refusal::BadOperation,
-        };
+        return refused::BAD_OPERATION;
     }
     post(t, k, n)
 }

@@ -13,32 +13,24 @@ ghost use Rattle.rules.specs.Table.{decode};
 ghost use Rattle.rules.specs.Test.{initOk, notAbove, kernelOk, soundTable};
 ghost use Rattle.rules.specs.declared.Thread.{Thread};
 ghost use Rattle.sound.specs.Tested.{Decides, InTable, Lengths, AllTaken, TakesPlace, NoGaps, Passes, Threads, NoneAbove, semTest};
+use rules::MOST_COUNT;
+use rules::PRIORITIES;
+use rules::SEMAPHORES;
+use rules::TABLE;
+use rules::THREADS;
+use rules::TOP_PRIORITY;
 use rules::Thread;
 use rules::Wait;
 
 mod used;
 
-// "16 threads [..] 8 semaphores [..] Priorities 0 to 31 [..] Turns and delays 1 to 99,999 ticks. Semaphore count 0 to 99."
-const THREADS: usize = 16;
-
-const SEMAPHORES: usize = 8;
-
-const TOP_PRIORITY: u8 = 31;
-
-const MOST_TICKS: u32 = 99999;
-
-const MOST_COUNT: u8 = 99;
-
-// "Its length is 600."
-const LENGTH: usize = 600;
-
 // PLACES
 
 // Takes the place that a thread in use has in the line that its wait names, if nobody has it.
 fn take_place(
-    ready: &mut [u16; 32],
-    waiters: &mut [u16; 8],
-    senders: &mut [u16; 16],
+    ready: &mut [u16; PRIORITIES],
+    waiters: &mut [u16; SEMAPHORES],
+    senders: &mut [u16; THREADS],
     w: Wait,
     suspended: bool,
     priority: u8,
@@ -80,9 +72,9 @@ fn thread_ok(
     t: &[u8],
     i: usize,
     limit: u8,
-    ready: &mut [u16; 32],
-    waiters: &mut [u16; 8],
-    senders: &mut [u16; 16],
+    ready: &mut [u16; PRIORITIES],
+    waiters: &mut [u16; SEMAPHORES],
+    senders: &mut [u16; THREADS],
 ) -> bool
     requires { ⌜ (i < printer .threads) × (length (now t) ≡ tableLength printer) ⌝ }
     ensures { λ r. ⌜ ((s : State) → decode printer (now (t .entry)) ≡ s
@@ -118,7 +110,7 @@ fn thread_ok(
 // ALL THREADS
 
 // Is in every line the place before one that is taken taken too?
-fn no_gaps(ready: &[u16; 32], waiters: &[u16; 8], senders: &[u16; 16]) -> bool
+fn no_gaps(ready: &[u16; PRIORITIES], waiters: &[u16; SEMAPHORES], senders: &[u16; THREADS]) -> bool
     ensures lengths { λ r. ⌜ (r ≡ true → Lengths (now (ready .entry)) (now (waiters .entry)) (now (senders .entry))) ⌝ }
     ensures gaps { λ r. ⌜ (r ≡ true) ↔ NoGaps (now (ready .entry)) (now (waiters .entry)) (now (senders .entry)) ⌝ }
 {
@@ -136,9 +128,9 @@ fn threads_ok(t: &[u8], limit: u8) -> bool
     requires { ⌜ length (now t) ≡ tableLength printer ⌝ }
     ensures { λ r. ⌜ ((s : State) → decode printer (now (t .entry)) ≡ s → Decides r (now (t .entry)) (Threads (now (t .entry)) s × NoneAbove limit s)) ⌝ }
 {
-    let mut ready = [0u16; 32];
-    let mut waiters = [0u16; 8];
-    let mut senders = [0u16; 16];
+    let mut ready = [0u16; PRIORITIES];
+    let mut waiters = [0u16; SEMAPHORES];
+    let mut senders = [0u16; THREADS];
     for i in 0..THREADS {
         if !thread_ok(t, i, limit, &mut ready, &mut waiters, &mut senders) {
             return false;
@@ -212,7 +204,7 @@ fn runs_ok(t: &[u8]) -> bool
 pub fn sound(t: &[u8]) -> bool
     ensures { λ r. ⌜ r ≡ soundTable printer (now (t .entry)) ⌝ }
 {
-    if t.len() != LENGTH {
+    if t.len() != TABLE {
         return false;
     }
     if !canon::kernel_canon(t) {

@@ -5,11 +5,15 @@ ghost use lib.Dec.{eqb, leb};
 ghost use lib.ListN.{length};
 ghost use Rattle.rules.specs.Basic.{if_then_else_};
 ghost use Rattle.rules.specs.Board.{printer, tableLength, topPriority, mostTicks};
-ghost use Rattle.rules.specs.State.{State, at, semAt, sending};
+ghost use Rattle.rules.specs.State.{State, at, semAt};
 ghost use Rattle.rules.specs.Table.{decode};
 ghost use Rattle.rules.specs.Test.{isDone, isNoneYet, counterOk, objectOk, usedOk};
 ghost use Rattle.sound.specs.Tested.{outcomeOk};
+use rules::MOST_TICKS;
 use rules::Outcome;
+use rules::SEMAPHORES;
+use rules::THREADS;
+use rules::TOP_PRIORITY;
 use rules::Thread;
 use rules::Wait;
 
@@ -18,13 +22,13 @@ use rules::Wait;
 fn ticks_ok(n: u32) -> bool
     ensures { λ r. ⌜ r ≡ (leb 1 n && leb n mostTicks) ⌝ }
 {
-    1 <= n && n <= crate::MOST_TICKS
+    1 <= n && n <= MOST_TICKS
 }
 
 fn settings_ok(priority: u8, turn: u32) -> bool
     ensures { λ r. ⌜ r ≡ (leb priority topPriority && (leb 1 turn && leb turn mostTicks)) ⌝ }
 {
-    if priority > crate::TOP_PRIORITY {
+    if priority > TOP_PRIORITY {
         return false;
     }
     ticks_ok(turn)
@@ -53,9 +57,9 @@ fn counter_ok(w: Wait, suspended: bool, place: u8, turn: u32) -> bool
             }
         }
         Wait::Delay { counter } => ticks_ok(counter),
-        Wait::Receive { counter } => counter <= crate::MOST_TICKS,
-        Wait::Send { to: _, counter } => counter <= crate::MOST_TICKS,
-        Wait::Semaphore { on: _, counter } => counter <= crate::MOST_TICKS,
+        Wait::Receive { counter } => counter <= MOST_TICKS,
+        Wait::Send { to: _, counter } => counter <= MOST_TICKS,
+        Wait::Semaphore { on: _, counter } => counter <= MOST_TICKS,
     }
 }
 
@@ -85,28 +89,16 @@ fn is_none_yet(o: Outcome) -> bool
     }
 }
 
-fn is_sending(w: Wait) -> bool
-    ensures { λ r. ⌜ r ≡ sending w ⌝ }
-{
-    match w {
-        Wait::Nothing { counter: _ } => false,
-        Wait::Delay { counter: _ } => false,
-        Wait::Receive { counter: _ } => false,
-        Wait::Send { to: _, counter: _ } => true,
-        Wait::Semaphore { on: _, counter: _ } => false,
-    }
-}
-
 fn outcome_ok(w: Wait, o: Outcome, parcel: u32) -> bool
     ensures { λ r. ⌜ r ≡ outcomeOk w o parcel ⌝ }
 {
-    if !lines::is_waiting(w) {
+    if !records::is_waiting(w) {
         return is_done(o) || parcel == 0;
     }
     if !is_none_yet(o) {
         return false;
     }
-    is_sending(w) || parcel == 0
+    records::is_sending(w) || parcel == 0
 }
 
 // WITH WHAT IT WAITS FOR
@@ -119,7 +111,7 @@ fn send_ok(t: &[u8], i: usize, to: usize) -> bool
     if i == to {
         return false;
     }
-    if to >= crate::THREADS {
+    if to >= THREADS {
         return false;
     }
     let th = records::load_thread(t, to);
@@ -131,7 +123,7 @@ fn pend_ok(t: &[u8], on: usize) -> bool
     requires { ⌜ length (now t) ≡ tableLength printer ⌝ }
     ensures { λ r. ⌜ ((s : State) → decode printer (now (t .entry)) ≡ s → r ≡ (semAt (s .sems) on .used && eqb (semAt (s .sems) on .count) 0)) ⌝ }
 {
-    if on >= crate::SEMAPHORES {
+    if on >= SEMAPHORES {
         return false;
     }
     let e = records::load_sem(t, on);

@@ -7,15 +7,11 @@ ghost use Rattle.rules.specs.Time.{doLock, doUnlock, charge, charged, timedOut,
 ghost use Rattle.layout.specs.Held.{Whole, Becomes, onThreads};
 ghost use Rattle.waiting.specs.Does.{Serves, Does};
 use rules::Answer;
+use rules::MOST_LOCK;
 use rules::Outcome;
-use rules::Refusal;
+use rules::THREADS;
 use rules::Wait;
-
-// How many threads there are.
-const THREADS: usize = 16;
-
-// "Lock nesting 0 to 255."
-const MOST_LOCK: u8 = 255;
+use rules::refused;
 
 // THE LOCK
 
@@ -25,9 +21,7 @@ pub fn lock(t: &mut [u8]) -> Answer
 {
     let n = records::lock(t);
     if n >= MOST_LOCK {
-        return Answer::Refused {
-            why: Refusal::BadOperation,
-        };
+        return refused::BAD_OPERATION;
     }
     records::set_lock(t, n + 1);
     waiting::accept(t, 0)
@@ -39,9 +33,7 @@ pub fn unlock(t: &mut [u8]) -> Answer
 {
     let n = records::lock(t);
     if n == 0 {
-        return Answer::Refused {
-            why: Refusal::BadOperation,
-        };
+        return refused::BAD_OPERATION;
     }
     records::set_lock(t, n - 1);
     waiting::accept(t, 0)
@@ -58,7 +50,7 @@ fn charge(t: &mut [u8], r: usize)
     let w = th.wait;
     let c = records::counter_of(w);
     if c <= 1 {
-        threads::to_tail(t, r);
+        lines::to_tail(t, r);
         return;
     }
     records::set_counter(t, r, c - 1);
@@ -69,7 +61,7 @@ fn charged(t: &mut [u8])
     requires { ⌜ Serves printer (now t) ⌝ }
     ensures { λ _. ⌜ Becomes printer (now (t .entry)) (now (t .exit)) (λ s. withThreads (charged s) s) ⌝ }
 {
-    if records::lock(t) != 0 {
+    if records::lock(t) > 0 {
         return;
     }
     let r = records::running(t);
@@ -96,7 +88,7 @@ fn count_down(t: &mut [u8], i: usize)
 {
     let th = records::load_thread(t, i);
     let w = th.wait;
-    if !lines::is_waiting(w) {
+    if !records::is_waiting(w) {
         return;
     }
     let c = records::counter_of(w);
@@ -146,11 +138,9 @@ pub fn outcome(t: &[u8], i: u8) -> Answer
     requires { ⌜ Serves printer (now t) ⌝ }
     ensures { λ r. ⌜ Does printer (now (t .entry)) (now (t .entry)) r (λ s. doOutcome s i) ⌝ }
 {
-    let th = threads::thread_at(t, i);
+    let th = records::thread_at(t, i);
     if !th.used {
-        return Answer::Refused {
-            why: Refusal::BadThread,
-        };
+        return refused::BAD_THREAD;
     }
     let o = th.outcome;
     outcome_answer(o, th.parcel)

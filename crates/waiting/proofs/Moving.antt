@@ -1,6 +1,6 @@
 -- Writes in a row that are one change of a thread: what a move does between the line that it leaves and the line that it joins.
 -- Assumes nothing.
-use mathlib.Core.Path.{_≡_, ap}
+use mathlib.Core.Path.{ap}
 use mathlib.Core.List.{List}
 use Prim.Native.Nat.{ℕ, _<_}
 use native.Mathlib.Omega.{arith}

@@ -6,14 +6,16 @@ use Prim.Native.Nat.{ℕ, _<_}
 use Rattle.rules.specs.Board.{Board}
 use Rattle.rules.specs.State.{State}
 use Rattle.rules.specs.Table.{decode}
+use Rattle.rules.specs.Sound.{Sound}
 use Rattle.rules.specs.Waiting.{Step}
 use Rattle.rules.specs.declared.Answer.{Answer}
 use Rattle.layout.specs.Held.{Holds, Whole}
 
--- a table that holds a state whose running thread is on the board: what an operation asks for
+-- a sound table: what an operation asks for
 pub record Serves (b : Board) (t : List ℕ) : Type 0 where
   pub whole : Whole b t
   pub runs : decode b t .running < b .threads
+  pub sound : Sound (decode b t)
 
 pub record Does (b : Board) (before after : List ℕ) (given : Answer) (rule : State → Step) : Type 0 where
   pub whole : Whole b after

@@ -10,20 +10,17 @@ ghost use Rattle.rules.specs.State.{State, withWait, withOutcome};
 ghost use Rattle.rules.specs.Table.{decode};
 ghost use Rattle.rules.specs.Lines.{Line, move};
 ghost use Rattle.rules.specs.Waiting.{accept, endWait, serve, block, mayNotWait, waitCounter, mustWait};
+ghost use Rattle.rules.specs.Threads.{noThread, breakOff};
 ghost use Rattle.rules.specs.declared.Wait.{Wait};
 ghost use Rattle.layout.specs.Held.{Whole, Becomes, onThreads};
 ghost use Rattle.lines.specs.Numbers.{lineNumber};
 ghost use Rattle.waiting.specs.Does.{Serves, Does};
 use rules::Answer;
+use rules::MOST_TICKS;
 use rules::Outcome;
-use rules::Refusal;
+use rules::THREADS;
 use rules::Wait;
-
-// How many threads there are.
-const THREADS: usize = 16;
-
-// "Turns and delays 1 to 99,999 ticks."
-const MOST_TICKS: u32 = 99999;
+use rules::refused;
 
 // THE END OF A STEP
 
@@ -78,6 +75,32 @@ pub fn serve(t: &mut [u8], n: u8, line: u16, outcome: Outcome)
     }
 }
 
+// A WAIT IS BROKEN OFF
+
+// "Thread number above 15, or free."
+pub fn no_thread(t: &[u8], i: u8) -> bool
+    requires { ⌜ length (now t) ≡ tableLength printer ⌝ }
+    ensures { λ r. ⌜ ((s : State) → decode printer (now (t .entry)) ≡ s → r ≡ noThread s i) ⌝ }
+{
+    let th = records::thread_at(t, i);
+    !th.used
+}
+
+// The wait of thread `i` ends with −5, where `named` says whether it is of the kind that the operation names. Refused in the order −1, −4.
+pub fn break_off(t: &mut [u8], i: u8, named: bool) -> Answer
+    requires { ⌜ Serves printer (now t) ⌝ }
+    ensures { λ r. ⌜ Does printer (now (t .entry)) (now (t .exit)) r (λ s. breakOff (λ w. named) s i) ⌝ }
+{
+    if no_thread(t, i) {
+        return refused::BAD_THREAD;
+    }
+    if !named {
+        return refused::BAD_STATE;
+    }
+    end_wait(t, i as usize, Outcome::Failed, 0);
+    accept(t, 0)
+}
+
 // A WAIT BEGINS
 
 // "The caller is Init or the lock is on."
@@ -115,14 +138,10 @@ pub fn must_wait(t: &mut [u8], n: u32, w: Wait, parcel: u32) -> Answer
     ensures { λ r. ⌜ ((kind : ℕ → Wait) → w ≡ kind (waitCounter n) → Does printer (now (t .entry)) (now (t .exit)) r (λ s. mustWait s n kind parcel)) ⌝ }
 {
     if n == 0 {
-        return Answer::Refused {
-            why: Refusal::BadOperation,
-        };
+        return refused::BAD_OPERATION;
     }
     if may_not_wait(t) {
-        return Answer::Refused {
-            why: Refusal::BadOperation,
-        };
+        return refused::BAD_OPERATION;
     }
     block(t, w, parcel)
 }

@@ -46,9 +46,10 @@ returns : tie.Need-returns
 returns c =
     let start = c .before .before .before .before .before .before .before .before .before .before .before .before in
     let code = c .before .before .before .before .before .before .before .before .before .code in
+    let bits = c .before .before .before .before .before .before .before .before .bits in
     answered (start .args .a) (start .args .area .now) (start .pre)
     (toZ-ofZ w32 _ (record { sfits = code .ok }) ∙ code .ensures)
-    (c .before .before .before .before .before .before .before .before .bits .ensures)
+    (bits .ensures)
     (c .before .before .before .before .before .before .before .put-word .ensures)
     (c .before .before .before .value .ensures)
     (c .before .before .put-word2 .ensures)

@@ -1,4 +1,5 @@
 -- `canon::sem_canon` meets its contract: each test that fails decides, and else the last one does. Assumes nothing.
+use native.Mathlib.Nat.{add-zero}
 use borrow.Author.Tests.{le-leb, lt-leb}
 use borrow.Author.Needs.{needs}
 use Rattle.layout.specs.Canon.{semCanon}
@@ -11,21 +12,24 @@ mul-base c = search needs
 add-base : tie.Need-add-base
 add-base c = search needs
 
+add-if1 : tie.Need-add-if1
+add-if1 c = search needs
+
 shared-slice-read-if1 : tie.Need-shared-slice-read-if1
 shared-slice-read-if1 c = search needs
 
 returns : tie.Need-returns
 unfolding semCanon
-returns c = rw (lt-leb _ _ (c .if1 .taken))
+returns c = rw (lt-leb _ _ (rw add-zero at (c .if1 .taken)))
 
 rest-zero-requires : tie.Need-rest-zero-requires
 rest-zero-requires c κs = search needs
 
 returns-2 : tie.Need-returns-2
 unfolding semCanon
-returns-2 c = rw (le-leb _ _ (c .before .if1 .left)) (c .rest-zero .ensures)
+returns-2 c = rw (le-leb _ _ (rw add-zero at (c .before .if1 .left))) (c .rest-zero .ensures)
 
 pub sem-canon-spec : {M : Type 1} → statement M
 sem-canon-spec =
     tie.close
-    (tie.spec mul-base add-base shared-slice-read-if1 returns rest-zero-requires returns-2)
+    (tie.spec mul-base add-base add-if1 shared-slice-read-if1 returns rest-zero-requires returns-2)

@@ -10,7 +10,7 @@ use Rattle.rules.specs.Board.{printer}
 use Rattle.layout.specs.Held.{Whole, Becomes, onThreads}
 use Rattle.layout.proofs.Held.{_⨾_, becomes-as, becomes-same, holds-on}
 use Rattle.lines.specs.Numbers.{lineNumber}
-use Rattle.lines.proofs.Turns.{mapTo, mapTo-none, mapTo-turn, mapTo-all}
+use Rattle.laws.proofs.Turns.{mapTo, mapTo-none, mapTo-turn, mapTo-all}
 use Rattle.lines.proofs.Standing.{nobody-moves}
 use Rattle.lines.proofs.Numbered.{none-of}
 use Rattle.lines.proofs.close_gap.Statement.{statement}
@@ -43,8 +43,9 @@ loop-less c = omega arith
 
 loop-again : tie.Need-loop-again Inv-loop μ-loop
 loop-again c =
+    let start = c .before .before .before .before .before .before .before .before in
     let turn = c .before .before .move-up .ensures in
-    let q = c .before .before .before .before .before .before .before .before .args .place in (
+    let q = start .args .place in (
       omega arith,
       turn .0,
       λ l e. becomes-as (c .before .before .before .before .before .loop .inv .2 l e ⨾ turn .1 l e)

@@ -10,7 +10,7 @@ use Rattle.rules.specs.State.{State, free, at}
 use Rattle.rules.specs.Board.{printer}
 use Rattle.layout.proofs.Held.{said-on}
 use Rattle.lines.specs.Numbers.{lineNumber}
-use Rattle.lines.proofs.Turns.{find-at, find-none}
+use Rattle.laws.proofs.Turns.{find-at, find-none}
 use Rattle.lines.proofs.first_of.Statement.{statement}
 use Rattle.lines.proofs.first_of.Tie as tie
 

@@ -32,14 +32,16 @@ same-length c = search needs
 returns : tie.Need-returns
 unfolding join
 returns c =
-    let i = c .before .before .before .before .before .before .before .before .before .before .before .before .before .before .args .i in
+    let start = c .before .before .before .before .before .before .before .before .before .before .before .before .before .before in
     let th = c .before .before .before .before .before .before .before .before .before .before .before .load-thread in
+    let line-of = c .before .before .before .before .before .before .before .before .before .line-of in
     let n = c .before .before .before .before .before .before .before .before .line-length in
+    let i = start .args .i in
     let place : (s : State) → decode printer _ ≡ s → n .result ≡ tailPlace i (s .threads) =
-    λ s e. n .ensures s (line (th .result)) e (c .before .before .before .before .before .before .before .before .before .line-of .ensures) ∙ ap (λ x. lineLength (line x) (s .threads)) (th .ensures s e) in (
+    λ s e. n .ensures s (line (th .result)) e (line-of .ensures) ∙ ap (λ x. lineLength (line x) (s .threads)) (th .ensures s e) in (
       place,
       becomes-as (c .before .before .before .before .before .before .set-place .ensures ⨾ c .before .before .fill .ensures) (λ s h. ap (λ ts. withThreads ts s)
-          (edit-edit (s .threads) i (withPlace (n .result)) filled (omega (arith, c .before .before .before .before .before .before .before .before .before .before .before .before .before .before .pre .0, holds-on h .threads))
+          (edit-edit (s .threads) i (withPlace (n .result)) filled (omega (arith, start .pre .0, holds-on h .threads))
           ∙ ap (λ q. edit i (λ x. filled (withPlace q x)) (s .threads)) (place s (h .says)))),
     )
 

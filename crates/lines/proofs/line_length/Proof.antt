@@ -13,7 +13,7 @@ use Rattle.rules.specs.Basic.{count}
 use Rattle.laws.proofs.Placed.{count-nowhere}
 use Rattle.layout.proofs.Held.{said-on}
 use Rattle.lines.specs.Numbers.{lineNumber}
-use Rattle.lines.proofs.Turns.{count-turn}
+use Rattle.laws.proofs.Turns.{count-turn}
 use Rattle.lines.proofs.Numbered.{none-of}
 use Rattle.lines.proofs.line_length.Statement.{statement}
 use Rattle.lines.proofs.line_length.Tie as tie

@@ -30,14 +30,19 @@ same-length c = search needs
 
 returns : tie.Need-returns
 unfolding emptied
-returns c = becomes-as (c .before .before .set-mail .ensures) (λ s h. rw (← c .before .before .before .before .before .line-length .ensures s (senders (c .before .before .before .before .before .before .before .before .before .args .r)) (h .says) (c .before .before .before .before .before .before .before .senders-line .ensures), eq-eqb (c .before .before .before .before .before .line-length .result) 0 (c .before .before .before .before .if1 .taken)))
+returns c =
+    let start = c .before .before .before .before .before .before .before .before .before in
+    becomes-as (c .before .before .set-mail .ensures) (λ s h. rw (← c .before .before .before .before .before .line-length .ensures s (senders (start .args .r)) (h .says) (c .before .before .before .before .before .before .before .senders-line .ensures), eq-eqb (c .before .before .before .before .before .line-length .result) 0 (c .before .before .before .before .if1 .taken)))
 
 same-length-2 : tie.Need-same-length-2
 same-length-2 c = search needs
 
 returns-2 : tie.Need-returns-2
 unfolding emptied
-returns-2 c = becomes-as (c .before .before .move-in .ensures) (λ s h. rw (← c .before .before .before .before .before .before .before .line-length .ensures s (senders (c .before .before .before .before .before .before .before .before .before .before .before .args .r)) (h .says) (c .before .before .before .before .before .before .before .before .before .senders-line .ensures), ne-eqb (c .before .before .before .before .before .before .before .line-length .result) 0 (c .before .before .before .before .before .before .if1 .left), ← c .before .before .before .before .first-of .ensures .1 s (senders (c .before .before .before .before .before .before .before .before .before .before .before .args .r)) (h .says) (c .before .before .before .before .before .before .before .before .before .senders-line .ensures)))
+returns-2 c =
+    let start = c .before .before .before .before .before .before .before .before .before .before .before in
+    let senders-line = c .before .before .before .before .before .before .before .before .before .senders-line in
+    becomes-as (c .before .before .move-in .ensures) (λ s h. rw (← c .before .before .before .before .before .before .before .line-length .ensures s (senders (start .args .r)) (h .says) (senders-line .ensures), ne-eqb (c .before .before .before .before .before .before .before .line-length .result) 0 (c .before .before .before .before .before .before .if1 .left), ← c .before .before .before .before .first-of .ensures .1 s (senders (start .args .r)) (h .says) (senders-line .ensures)))
 
 pub empty-mailbox-spec : {M : Type 1} → statement M
 empty-mailbox-spec =

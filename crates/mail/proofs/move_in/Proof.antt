@@ -25,7 +25,9 @@ same-length : tie.Need-same-length
 same-length c = search needs
 
 returns : tie.Need-returns
-returns c = becomes-as (c .before .before .before .before .before .before .end-wait .ensures ⨾ c .before .before .set-mail .ensures) (λ s h. rw (← c .before .before .before .before .before .before .before .before .load-thread .ensures s (h .says)))
+returns c =
+    let load-thread = c .before .before .before .before .before .before .before .before .load-thread in
+    becomes-as (c .before .before .before .before .before .before .end-wait .ensures ⨾ c .before .before .set-mail .ensures) (λ s h. rw (← load-thread .ensures s (h .says)))
 
 same-length-2 : tie.Need-same-length-2
 same-length-2 c = search needs

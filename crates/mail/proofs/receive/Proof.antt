@@ -25,7 +25,11 @@ same-length c = search needs
 
 returns : tie.Need-returns
 unfolding doReceive
-returns c = then-does (c .before .before .before .before .before .before .empty-mailbox .ensures) (c .before .before .accept .ensures) (λ s h. rw (← c .before .before .before .before .before .before .before .before .before .before .before .running .ensures s (h .says), ← c .before .before .before .before .before .before .before .before .before .load-thread .ensures s (h .says), c .before .before .before .before .before .before .before .before .if1 .taken))
+returns c =
+    let running = c .before .before .before .before .before .before .before .before .before .before .before .running in
+    let load-thread = c .before .before .before .before .before .before .before .before .before .load-thread in
+    let if1 = c .before .before .before .before .before .before .before .before .if1 in
+    then-does (c .before .before .before .before .before .before .empty-mailbox .ensures) (c .before .before .accept .ensures) (λ s h. rw (← running .ensures s (h .says), ← load-thread .ensures s (h .says), if1 .taken))
 
 wait-counter-requires : tie.Need-wait-counter-requires
 wait-counter-requires c κs = search needs
@@ -38,7 +42,9 @@ same-length-2 c = search needs
 
 returns-2 : tie.Need-returns-2
 unfolding doReceive
-returns-2 c = does-as (c .before .before .must-wait .ensures Receive (ap Receive (c .before .before .before .before .wait-counter .ensures))) (λ s h. rw (← c .before .before .before .before .before .before .before .before .running .ensures s (h .says), ← c .before .before .before .before .before .before .load-thread .ensures s (h .says), c .before .before .before .before .before .if1 .left))
+returns-2 c =
+    let running = c .before .before .before .before .before .before .before .before .running in
+    does-as (c .before .before .must-wait .ensures Receive (ap Receive (c .before .before .before .before .wait-counter .ensures))) (λ s h. rw (← running .ensures s (h .says), ← c .before .before .before .before .before .before .load-thread .ensures s (h .says), c .before .before .before .before .before .if1 .left))
 
 pub receive-spec : {M : Type 1} → statement M
 receive-spec =

@@ -92,16 +92,20 @@ shared-slice-read-t29 c = search needs
 
 returns : tie.Need-returns
 returns c =
+    let start = c .before .before .before .before .before .before .before .before .before .before .before .before .before .before .before in
+    let word-at = c .before .before .before .before .before .before .before .before .before .before .before .before .before .word-at in
+    let wait-of = c .before .before .before .before .before .before .before .before .before .before .wait-of in
+    let outcome-of = c .before .before .before .before .before .before .before .before .outcome-of in
     λ s e.
-    let i = c .before .before .before .before .before .before .before .before .before .before .before .before .before .before .before .args .i in
+    let i = start .args .i in
     sym (thread-made _ _ _ _ _ _ _ _
-    (c .before .before .before .before .before .before .before .before .before .before .before .before .before .word-at .ensures)
-    (c .before .before .before .before .before .before .before .before .before .before .wait-of .ensures)
-    (c .before .before .before .before .before .before .before .before .outcome-of .ensures)
+    (word-at .ensures)
+    (wait-of .ensures)
+    (outcome-of .ensures)
     (c .before .before .before .before .before .before .before .word-at2 .ensures)
     (c .before .before .before .before .before .before .word-at3 .ensures)
     (c .before .before .before .before .before .word-at4 .ensures))
-    ∙ sym (thread-said printer _ (c .before .before .before .before .before .before .before .before .before .before .before .before .before .before .before .pre .1) i (c .before .before .before .before .before .before .before .before .before .before .before .before .before .before .before .pre .0)) ∙ ap (λ s. at (s .threads) i) e
+    ∙ sym (thread-said printer _ (start .pre .1) i (start .pre .0)) ∙ ap (λ s. at (s .threads) i) e
 
 pub load-thread-spec : {M : Type 1} → statement M
 load-thread-spec =

@@ -34,15 +34,21 @@ same-length c = search needs
 
 returns : tie.Need-returns
 returns c =
+    let start = c .before .before .before .before .before .before .before .before .before .before .before .before .before .before .before .before .before .before .before .before .before .before .before .before .before .before .before .before .before in
+    let set-used = c .before .before .before .before .before .before .before .before .before .before .before .before .before .before .before .before .before .before .before .before .before .before .before .before .before .before .set-used in
+    let set-settings = c .before .before .before .before .before .before .before .before .before .before .before .before .before .before .before .before .before .before .before .before .before .before .set-settings in
+    let set-suspended = c .before .before .before .before .before .before .before .before .before .before .before .before .before .before .before .before .before .before .set-suspended in
+    let set-wait = c .before .before .before .before .before .before .before .before .before .before .before .before .before .before .set-wait in
+    let set-place = c .before .before .before .before .before .before .before .before .before .before .set-place in
     becomes-as
-    (c .before .before .before .before .before .before .before .before .before .before .before .before .before .before .before .before .before .before .before .before .before .before .before .before .before .before .set-used .ensures
-    ⨾ c .before .before .before .before .before .before .before .before .before .before .before .before .before .before .before .before .before .before .before .before .before .before .set-settings .ensures
-    ⨾ c .before .before .before .before .before .before .before .before .before .before .before .before .before .before .before .before .before .before .set-suspended .ensures
-    ⨾ c .before .before .before .before .before .before .before .before .before .before .before .before .before .before .set-wait .ensures
-    ⨾ c .before .before .before .before .before .before .before .before .before .before .set-place .ensures
+    (set-used .ensures
+    ⨾ set-settings .ensures
+    ⨾ set-suspended .ensures
+    ⨾ set-wait .ensures
+    ⨾ set-place .ensures
     ⨾ c .before .before .before .before .before .before .set-mail .ensures
     ⨾ c .before .before .set-outcome .ensures)
-    (λ s r. ap (λ ts. withThreads ts s) (stored (s .threads) (c .before .before .before .before .before .before .before .before .before .before .before .before .before .before .before .before .before .before .before .before .before .before .before .before .before .before .before .before .before .args .i) (c .before .before .before .before .before .before .before .before .before .before .before .before .before .before .before .before .before .before .before .before .before .before .before .before .before .before .before .before .before .args .th) (omega (arith, holds-on r .threads, c .before .before .before .before .before .before .before .before .before .before .before .before .before .before .before .before .before .before .before .before .before .before .before .before .before .before .before .before .before .pre .0))))
+    (λ s r. ap (λ ts. withThreads ts s) (stored (s .threads) (start .args .i) (start .args .th) (omega (arith, holds-on r .threads, start .pre .0))))
 
 pub store-thread-spec : {M : Type 1} → statement M
 store-thread-spec =

@@ -29,7 +29,11 @@ serve-requires : tie.Need-serve-requires
 serve-requires c κs = search needs
 
 set-sem-requires : tie.Need-set-sem-requires
-set-sem-requires c κs = (sem-there printer _ (c .before .before .before .before .before .before .before .before .before .before .before .before .before .args .k) (c .before .before .before .before .before .before .before .before .before .before .sem-at .ensures) (c .before .before .before .before .before .before .before .before .if1 .left), c .before .before .before .serve .ensures (waiters (c .before .before .before .before .before .before .before .before .before .before .before .before .before .args .k)) (c .before .before .before .before .before .before .before .waiters-line .ensures) .whole)
+set-sem-requires c κs =
+    let start = c .before .before .before .before .before .before .before .before .before .before .before .before .before in
+    let sem-at = c .before .before .before .before .before .before .before .before .before .before .sem-at in
+    let if1 = c .before .before .before .before .before .before .before .before .if1 in
+    (sem-there printer _ (start .args .k) (sem-at .ensures) (if1 .left), c .before .before .before .serve .ensures (waiters (start .args .k)) (c .before .before .before .before .before .before .before .waiters-line .ensures) .whole)
 
 accept-requires : tie.Need-accept-requires
 accept-requires c κs = search needs
@@ -39,7 +43,14 @@ same-length-2 c = search needs
 
 returns-2 : tie.Need-returns-2
 unfolding doDrop
-returns-2 c = then-does (c .before .before .before .before .before .before .before .before .before .before .serve .ensures (waiters (c .before .before .before .before .before .before .before .before .before .before .before .before .before .before .before .before .before .before .before .before .args .k)) (c .before .before .before .before .before .before .before .before .before .before .before .before .before .before .waiters-line .ensures) ⨾ c .before .before .before .before .before .before .set-sem .ensures) (c .before .before .accept .ensures) (λ s h. rw (← c .before .before .before .before .before .before .before .before .before .before .before .before .before .before .before .before .before .sem-at .ensures s (h .says), c .before .before .before .before .before .before .before .before .before .before .before .before .before .before .before .if1 .left, ← c .before .before .before .before .before .before .before .before .before .before .before .before .line-length .ensures s (waiters (c .before .before .before .before .before .before .before .before .before .before .before .before .before .before .before .before .before .before .before .before .args .k)) (h .says) (c .before .before .before .before .before .before .before .before .before .before .before .before .before .before .waiters-line .ensures)))
+returns-2 c =
+    let start = c .before .before .before .before .before .before .before .before .before .before .before .before .before .before .before .before .before .before .before .before in
+    let sem-at = c .before .before .before .before .before .before .before .before .before .before .before .before .before .before .before .before .before .sem-at in
+    let if1 = c .before .before .before .before .before .before .before .before .before .before .before .before .before .before .before .if1 in
+    let waiters-line = c .before .before .before .before .before .before .before .before .before .before .before .before .before .before .waiters-line in
+    let line-length = c .before .before .before .before .before .before .before .before .before .before .before .before .line-length in
+    let serve = c .before .before .before .before .before .before .before .before .before .before .serve in
+    then-does (serve .ensures (waiters (start .args .k)) (waiters-line .ensures) ⨾ c .before .before .before .before .before .before .set-sem .ensures) (c .before .before .accept .ensures) (λ s h. rw (← sem-at .ensures s (h .says), if1 .left, ← line-length .ensures s (waiters (start .args .k)) (h .says) (waiters-line .ensures)))
 
 pub drop-semaphore-spec : {M : Type 1} → statement M
 drop-semaphore-spec =

@@ -45,7 +45,12 @@ same-length-3 c = search needs
 
 returns-4 : tie.Need-returns-4
 unfolding doMake
-returns-4 c = then-does (c .before .before .before .before .before .before .set-count .ensures) (c .before .before .accept .ensures) (λ s h. rw (lt-leb (length (s .sems)) (c .before .before .before .before .before .before .before .before .before .before .before .before .before .before .args .k) (omega (arith, holds-on h .sems)), ← c .before .before .before .before .before .before .before .before .before .before .load-sem .ensures s (h .says), c .before .before .before .before .before .before .before .before .before .if2 .left, le-ltb mostCount (c .before .before .before .before .before .before .before .before .before .before .before .before .before .before .args .n) (c .before .before .before .before .before .before .before .before .if3 .left)))
+returns-4 c =
+    let start = c .before .before .before .before .before .before .before .before .before .before .before .before .before .before in
+    let load-sem = c .before .before .before .before .before .before .before .before .before .before .load-sem in
+    let if2 = c .before .before .before .before .before .before .before .before .before .if2 in
+    let if3 = c .before .before .before .before .before .before .before .before .if3 in
+    then-does (c .before .before .before .before .before .before .set-count .ensures) (c .before .before .accept .ensures) (λ s h. rw (lt-leb (length (s .sems)) (start .args .k) (omega (arith, holds-on h .sems)), ← load-sem .ensures s (h .says), if2 .left, le-ltb mostCount (start .args .n) (if3 .left)))
 
 pub make-spec : {M : Type 1} → statement M
 make-spec =

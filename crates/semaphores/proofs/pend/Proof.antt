@@ -29,7 +29,9 @@ sub-left : tie.Need-sub-left
 sub-left c = search needs
 
 set-count-requires : tie.Need-set-count-requires
-set-count-requires c κs = (sem-there printer _ (c .before .before .before .before .before .before .before .before .before .args .k) (c .before .before .before .before .before .before .sem-at .ensures) (c .before .before .before .before .if1 .left), c .before .before .before .before .before .before .before .before .before .pre .whole)
+set-count-requires c κs =
+    let start = c .before .before .before .before .before .before .before .before .before in
+    (sem-there printer _ (start .args .k) (c .before .before .before .before .before .before .sem-at .ensures) (c .before .before .before .before .if1 .left), start .pre .whole)
 
 cast-accept : tie.Need-cast-accept
 cast-accept c = search needs
@@ -42,7 +44,11 @@ same-length-2 c = search needs
 
 returns-2 : tie.Need-returns-2
 unfolding doPend
-returns-2 c = then-does (c .before .before .before .before .before .before .set-count .ensures) (c .before .before .accept .ensures) (λ s h. rw (← c .before .before .before .before .before .before .before .before .before .before .before .before .before .sem-at .ensures s (h .says), countOf, c .before .before .before .before .before .before .before .before .before .before .before .if1 .left, lt-ltb 0 (c .before .before .before .before .before .before .before .before .before .before .before .before .before .sem-at .result .count) (c .before .before .before .before .before .before .before .before .before .if2 .taken), one-less (c .before .before .before .before .before .before .before .before .before .before .before .before .before .sem-at .result .count)))
+returns-2 c =
+    let sem-at = c .before .before .before .before .before .before .before .before .before .before .before .before .before .sem-at in
+    let if1 = c .before .before .before .before .before .before .before .before .before .before .before .if1 in
+    let if2 = c .before .before .before .before .before .before .before .before .before .if2 in
+    then-does (c .before .before .before .before .before .before .set-count .ensures) (c .before .before .accept .ensures) (λ s h. rw (← sem-at .ensures s (h .says), countOf, if1 .left, lt-ltb 0 (sem-at .result .count) (if2 .taken), one-less (sem-at .result .count)))
 
 wait-counter-requires : tie.Need-wait-counter-requires
 wait-counter-requires c κs = search needs
@@ -55,7 +61,10 @@ same-length-3 c = search needs
 
 returns-3 : tie.Need-returns-3
 unfolding doPend
-returns-3 c = does-as (c .before .before .must-wait .ensures (Semaphore (c .before .before .before .before .before .before .before .before .before .before .before .before .args .k)) (ap (Semaphore (c .before .before .before .before .before .before .before .before .before .before .before .before .args .k)) (c .before .before .before .before .wait-counter .ensures))) (λ s h. rw (← c .before .before .before .before .before .before .before .before .before .sem-at .ensures s (h .says), countOf, c .before .before .before .before .before .before .before .if1 .left, le-ltb 0 (c .before .before .before .before .before .before .before .before .before .sem-at .result .count) (c .before .before .before .before .before .if2 .left)))
+returns-3 c =
+    let start = c .before .before .before .before .before .before .before .before .before .before .before .before in
+    let sem-at = c .before .before .before .before .before .before .before .before .before .sem-at in
+    does-as (c .before .before .must-wait .ensures (Semaphore (start .args .k)) (ap (Semaphore (start .args .k)) (c .before .before .before .before .wait-counter .ensures))) (λ s h. rw (← sem-at .ensures s (h .says), countOf, c .before .before .before .before .before .before .before .if1 .left, le-ltb 0 (sem-at .result .count) (c .before .before .before .before .before .if2 .left)))
 
 pub pend-spec : {M : Type 1} → statement M
 pend-spec =

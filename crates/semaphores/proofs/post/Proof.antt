@@ -49,10 +49,20 @@ sub-set-count : tie.Need-sub-set-count
 sub-set-count c = search needs
 
 add-set-count : tie.Need-add-set-count
-add-set-count c = omega (arith, sum-fits (c .before .before .before .before .before .before .before .before .before .before .before .before .before .before .sem-at .result .count) (c .before .before .before .before .before .before .before .before .before .before .before .before .before .before .before .before .before .args .n) (c .before .before .before .before .before .before .before .before .before .before .before .too-many .ensures) (c .before .before .before .before .before .before .before .before .before .before .if2 .left))
+add-set-count c =
+    let start = c .before .before .before .before .before .before .before .before .before .before .before .before .before .before .before .before .before in
+    let sem-at = c .before .before .before .before .before .before .before .before .before .before .before .before .before .before .sem-at in
+    let too-many = c .before .before .before .before .before .before .before .before .before .before .before .too-many in
+    let if2 = c .before .before .before .before .before .before .before .before .before .before .if2 in
+    omega (arith, sum-fits (sem-at .result .count) (start .args .n) (too-many .ensures) (if2 .left))
 
 set-count-requires : tie.Need-set-count-requires
-set-count-requires c κs = (sem-there printer _ (c .before .before .before .before .before .before .before .before .before .before .before .before .before .before .before .before .before .args .k) (c .before .before .before .before .before .before .before .before .before .before .before .before .before .before .sem-at .ensures) (c .before .before .before .before .before .before .before .before .before .before .before .before .if1 .left), c .before .before .before .before .serve .ensures (waiters (c .before .before .before .before .before .before .before .before .before .before .before .before .before .before .before .before .before .args .k)) (c .before .before .before .before .before .before .before .before .before .waiters-line .ensures) .whole)
+set-count-requires c κs =
+    let start = c .before .before .before .before .before .before .before .before .before .before .before .before .before .before .before .before .before in
+    let sem-at = c .before .before .before .before .before .before .before .before .before .before .before .before .before .before .sem-at in
+    let if1 = c .before .before .before .before .before .before .before .before .before .before .before .before .if1 in
+    let waiters-line = c .before .before .before .before .before .before .before .before .before .waiters-line in
+    (sem-there printer _ (start .args .k) (sem-at .ensures) (if1 .left), c .before .before .before .before .serve .ensures (waiters (start .args .k)) (waiters-line .ensures) .whole)
 
 accept-requires : tie.Need-accept-requires
 accept-requires c κs = search needs
@@ -62,7 +72,17 @@ same-length-3 c = search needs
 
 returns-3 : tie.Need-returns-3
 unfolding posted doPost
-returns-3 c = then-does (c .before .before .before .before .before .before .before .before .before .before .before .serve .ensures (waiters (c .before .before .before .before .before .before .before .before .before .before .before .before .before .before .before .before .before .before .before .before .before .before .before .before .args .k)) (c .before .before .before .before .before .before .before .before .before .before .before .before .before .before .before .before .waiters-line .ensures) ⨾ c .before .before .before .before .before .before .set-count .ensures) (c .before .before .accept .ensures) (λ s h. rw (← c .before .before .before .before .before .before .before .before .before .before .before .before .before .before .before .before .before .before .before .before .before .sem-at .ensures s (h .says), tooMany, countOf, c .before .before .before .before .before .before .before .before .before .before .before .before .before .before .before .before .before .before .before .if1 .left, ← c .before .before .before .before .before .before .before .before .before .before .before .before .before .before .before .before .before .before .too-many .ensures, c .before .before .before .before .before .before .before .before .before .before .before .before .before .before .before .before .before .if2 .left, ← c .before .before .before .before .before .before .before .before .before .before .before .before .before .before .line-length .ensures s (waiters (c .before .before .before .before .before .before .before .before .before .before .before .before .before .before .before .before .before .before .before .before .before .before .before .before .args .k)) (h .says) (c .before .before .before .before .before .before .before .before .before .before .before .before .before .before .before .before .waiters-line .ensures), ← c .before .before .before .before .before .before .before .before .before .before .before .before .before .least .ensures))
+returns-3 c =
+    let start = c .before .before .before .before .before .before .before .before .before .before .before .before .before .before .before .before .before .before .before .before .before .before .before .before in
+    let sem-at = c .before .before .before .before .before .before .before .before .before .before .before .before .before .before .before .before .before .before .before .before .before .sem-at in
+    let if1 = c .before .before .before .before .before .before .before .before .before .before .before .before .before .before .before .before .before .before .before .if1 in
+    let too-many = c .before .before .before .before .before .before .before .before .before .before .before .before .before .before .before .before .before .before .too-many in
+    let if2 = c .before .before .before .before .before .before .before .before .before .before .before .before .before .before .before .before .before .if2 in
+    let waiters-line = c .before .before .before .before .before .before .before .before .before .before .before .before .before .before .before .before .waiters-line in
+    let line-length = c .before .before .before .before .before .before .before .before .before .before .before .before .before .before .line-length in
+    let least = c .before .before .before .before .before .before .before .before .before .before .before .before .before .least in
+    let serve = c .before .before .before .before .before .before .before .before .before .before .before .serve in
+    then-does (serve .ensures (waiters (start .args .k)) (waiters-line .ensures) ⨾ c .before .before .before .before .before .before .set-count .ensures) (c .before .before .accept .ensures) (λ s h. rw (← sem-at .ensures s (h .says), tooMany, countOf, if1 .left, ← too-many .ensures, if2 .left, ← line-length .ensures s (waiters (start .args .k)) (h .says) (waiters-line .ensures), ← least .ensures))
 
 pub post-spec : {M : Type 1} → statement M
 post-spec =

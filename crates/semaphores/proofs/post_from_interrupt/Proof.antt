@@ -24,7 +24,9 @@ same-length-2 c = search needs
 
 returns-2 : tie.Need-returns-2
 unfolding doPostFromInterrupt
-returns-2 c = does-nothing (c .before .before .before .before .before .before .before .before .pre .whole) (λ s e. rw (← c .before .before .before .before .before .sem-at .ensures s e, c .before .before .before .if1 .left, ← c .before .lock .ensures s e, lt-ltb 0 (c .before .lock .result) (c .if2 .taken)))
+returns-2 c =
+    let start = c .before .before .before .before .before .before .before .before in
+    does-nothing (start .pre .whole) (λ s e. rw (← c .before .before .before .before .before .sem-at .ensures s e, c .before .before .before .if1 .left, ← c .before .lock .ensures s e, lt-ltb 0 (c .before .lock .result) (c .if2 .taken)))
 
 post-requires : tie.Need-post-requires
 post-requires c κs = search needs
@@ -34,7 +36,9 @@ same-length-3 c = search needs
 
 returns-3 : tie.Need-returns-3
 unfolding doPostFromInterrupt
-returns-3 c = does-as (c .before .before .post .ensures) (λ s h. rw (← c .before .before .before .before .before .before .before .before .before .sem-at .ensures s (h .says), c .before .before .before .before .before .before .before .if1 .left, ← c .before .before .before .before .before .lock .ensures s (h .says), le-ltb 0 (c .before .before .before .before .before .lock .result) (c .before .before .before .before .if2 .left)))
+returns-3 c =
+    let sem-at = c .before .before .before .before .before .before .before .before .before .sem-at in
+    does-as (c .before .before .post .ensures) (λ s h. rw (← sem-at .ensures s (h .says), c .before .before .before .before .before .before .before .if1 .left, ← c .before .before .before .before .before .lock .ensures s (h .says), le-ltb 0 (c .before .before .before .before .before .lock .result) (c .before .before .before .before .if2 .left)))
 
 pub post-from-interrupt-spec : {M : Type 1} → statement M
 post-from-interrupt-spec =

@@ -37,13 +37,17 @@ returns-3 : tie.Need-returns-3
 returns-3 c s e = locked-runs _ s e (omega (arith, c .before .before .lock .ok, c .before .before .lock .ensures s e)) (as-read isReady (caller-read s (c .before .before .before .before .before .load-thread .ensures s e) (c .before .before .before .before .before .before .before .running .ensures s e)) (sym (c .before .before .before .before .is-ready .ensures) ∙ not-false _ (c .before .before .before .if2 .left))) (λ z. c .before .if3 .taken (c .before .before .lock .ensures s e ∙ z)) (c .threads-ok .ensures s e)
 
 returns-4 : tie.Need-returns-4
-returns-4 c s e = fails (λ h. c .if4 .taken (ap (λ th. th .place) (caller-read s (c .before .before .before .before .before .before .load-thread .ensures s e) (c .before .before .before .before .before .before .before .before .running .ensures s e)) ∙ kernel-says s .0 (h .1) .1 (omega (arith, c .before .before .before .lock .ensures s e)) .0))
+returns-4 c s e =
+    let running = c .before .before .before .before .before .before .before .before .running in
+    fails (λ h. c .if4 .taken (ap (λ th. th .place) (caller-read s (c .before .before .before .before .before .before .load-thread .ensures s e) (running .ensures s e)) ∙ kernel-says s .0 (h .1) .1 (omega (arith, c .before .before .before .lock .ensures s e)) .0))
 
 threads-ok-requires-2 : tie.Need-threads-ok-requires-2
 threads-ok-requires-2 c κs = search needs
 
 returns-5 : tie.Need-returns-5
-returns-5 c s e = first-runs _ s e (omega (arith, c .before .before .before .before .lock .ok, c .before .before .before .before .lock .ensures s e)) (as-read isReady (caller-read s (c .before .before .before .before .before .before .before .load-thread .ensures s e) (c .before .before .before .before .before .before .before .before .before .running .ensures s e)) (sym (c .before .before .before .before .before .before .is-ready .ensures) ∙ not-false _ (c .before .before .before .before .before .if2 .left))) (sym (c .before .before .before .before .lock .ensures s e) ∙ c .before .before .before .if3 .left) (ap (λ th. th .place) (sym (caller-read s (c .before .before .before .before .before .before .before .load-thread .ensures s e) (c .before .before .before .before .before .before .before .before .before .running .ensures s e))) ∙ c .before .if4 .left) (rw (caller-read s (c .before .before .before .before .before .before .before .load-thread .ensures s e) (c .before .before .before .before .before .before .before .before .before .running .ensures s e)) at (c .threads-ok2 .ensures s e))
+returns-5 c s e =
+    let running = c .before .before .before .before .before .before .before .before .before .running in
+    first-runs _ s e (omega (arith, c .before .before .before .before .lock .ok, c .before .before .before .before .lock .ensures s e)) (as-read isReady (caller-read s (c .before .before .before .before .before .before .before .load-thread .ensures s e) (running .ensures s e)) (sym (c .before .before .before .before .before .before .is-ready .ensures) ∙ not-false _ (c .before .before .before .before .before .if2 .left))) (sym (c .before .before .before .before .lock .ensures s e) ∙ c .before .before .before .if3 .left) (ap (λ th. th .place) (sym (caller-read s (c .before .before .before .before .before .before .before .load-thread .ensures s e) (running .ensures s e))) ∙ c .before .if4 .left) (rw (caller-read s (c .before .before .before .before .before .before .before .load-thread .ensures s e) (running .ensures s e)) at (c .threads-ok2 .ensures s e))
 
 pub runs-ok-spec : {M : Type 1} → statement M
 runs-ok-spec =

@@ -32,10 +32,13 @@ runs-ok-requires : tie.Need-runs-ok-requires
 runs-ok-requires c κs = omega arith
 
 returns-5 : tie.Need-returns-5
-returns-5 c = let t = c .before .before .before .before .before .before .before .before .before .args .t .now in
+returns-5 c =
+    let start = c .before .before .before .before .before .before .before .before .before in
+    let shared-slice-known = c .before .before .before .before .before .before .before .before .shared-slice-known in
+    let t = start .args .t .now in
     let runs = c .runs-ok .ensures _ refl in
     pass-together _ _ (
-      λ e. parts-sound t (λ k. omega (arith, c .before .before .before .before .before .before .before .before .shared-slice-known .given k)) (record {
+      λ e. parts-sound t (λ k. omega (arith, shared-slice-known .given k)) (record {
         long = omega arith;
         kernel = sym (c .before .before .before .before .before .before .kernel-canon .ensures) ∙ not-false _ (c .before .before .before .before .before .if2 .left);
         sems = sym (c .before .before .before .before .sems-ok .ensures _ refl) ∙ not-false _ (c .before .before .before .if3 .left);

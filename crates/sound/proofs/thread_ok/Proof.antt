@@ -40,15 +40,23 @@ not-above-requires : tie.Need-not-above-requires
 not-above-requires c κs = search needs
 
 returns-4 : tie.Need-returns-4
-returns-4 c s e old = (fails (λ p. clash (p .rank) (as-read (notAbove (c .before .before .before .before .before .before .before .before .before .before .args .limit)) (c .before .before .before .before .before .before .before .before .load-thread .ensures s e) (sym (c .before .not-above .ensures) ∙ not-true _ (c .if4 .taken)))), λ z. absurd (clash z refl))
+returns-4 c s e old =
+    let start = c .before .before .before .before .before .before .before .before .before .before in
+    let load-thread = c .before .before .before .before .before .before .before .before .load-thread in
+    (fails (λ p. clash (p .rank) (as-read (notAbove (start .args .limit)) (load-thread .ensures s e) (sym (c .before .not-above .ensures) ∙ not-true _ (c .if4 .taken)))), λ z. absurd (clash z refl))
 
 take-place-requires : tie.Need-take-place-requires
 take-place-requires c κs = used-within _ (on-decode printer _) _ _ (sym (c .before .before .before .before .before .before .used-ok .ensures _ refl) ∙ not-false _ (c .before .before .before .before .before .if3 .left))
 
 returns-5 : tie.Need-returns-5
 returns-5 c s e old =
-    let takes = c .take-place .ensures (s .threads) (c .before .before .before .before .before .before .before .before .before .before .before .before .before .before .args .i) (omega (arith, threads-long _ e)) (line-read (c .before .before .before .before .before .before .before .before .before .before .before .before .load-thread .ensures s e) (not-false _ (c .before .before .before .before .before .before .before .before .before .before .if1 .left))) (ap (λ th. th .place) (sym (c .before .before .before .before .before .before .before .before .before .before .before .before .load-thread .ensures s e))) old in (
-      used-ends s _ _ (c .before .before .before .before .before .before .before .before .before .before .before .before .load-thread .ensures s e) (not-false _ (c .before .before .before .before .before .before .before .before .before .before .if1 .left)) (sym (c .before .before .before .before .before .before .before .before .before .thread-canon .ensures) ∙ not-false _ (c .before .before .before .before .before .before .before .before .if2 .left)) (sym (c .before .before .before .before .before .before .before .used-ok .ensures s e) ∙ not-false _ (c .before .before .before .before .before .before .if3 .left))
+    let start = c .before .before .before .before .before .before .before .before .before .before .before .before .before .before in
+    let load-thread = c .before .before .before .before .before .before .before .before .before .before .before .before .load-thread in
+    let if1 = c .before .before .before .before .before .before .before .before .before .before .if1 in
+    let thread-canon = c .before .before .before .before .before .before .before .before .before .thread-canon in
+    let if2 = c .before .before .before .before .before .before .before .before .if2 in
+    let takes = c .take-place .ensures (s .threads) (start .args .i) (omega (arith, threads-long _ e)) (line-read (load-thread .ensures s e) (not-false _ (if1 .left))) (ap (λ th. th .place) (sym (load-thread .ensures s e))) old in (
+      used-ends s _ _ (load-thread .ensures s e) (not-false _ (if1 .left)) (sym (thread-canon .ensures) ∙ not-false _ (if2 .left)) (sym (c .before .before .before .before .before .before .before .used-ok .ensures s e) ∙ not-false _ (c .before .before .before .before .before .before .if3 .left))
           (sym (c .before .before .before .before .before .not-above .ensures) ∙ not-false _ (c .before .before .before .before .if4 .left)) (takes .answer),
       takes .taken,
     )

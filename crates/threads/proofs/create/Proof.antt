@@ -33,7 +33,9 @@ same-length c = search needs
 
 returns-4 : tie.Need-returns-4
 unfolding doCreate
-returns-4 c = does-nothing (c .before .before .before .before .before .before .before .before .pre .whole) (λ s e. rw (le-ltb topPriority (c .before .before .before .before .before .before .before .before .args .priority) (c .before .before .before .before .before .before .if1 .left), ← c .before .before .before .before .before .bad-ticks .ensures, c .before .before .before .before .if2 .left, lt-leb (length (s .threads)) (c .before .before .before .before .before .before .before .before .args .i) (omega (arith, said-on printer _ e .threads)), ← c .before .load-thread .ensures s e, c .if4 .taken))
+returns-4 c =
+    let start = c .before .before .before .before .before .before .before .before in
+    does-nothing (start .pre .whole) (λ s e. rw (le-ltb topPriority (start .args .priority) (c .before .before .before .before .before .before .if1 .left), ← c .before .before .before .before .before .bad-ticks .ensures, c .before .before .before .before .if2 .left, lt-leb (length (s .threads)) (start .args .i) (omega (arith, said-on printer _ e .threads)), ← c .before .load-thread .ensures s e, c .if4 .taken))
 
 create-thread-requires : tie.Need-create-thread-requires
 create-thread-requires c κs = search needs
@@ -46,7 +48,14 @@ same-length-2 c = search needs
 
 returns-5 : tie.Need-returns-5
 unfolding doCreate
-returns-5 c = then-does (c .before .before .before .before .before .before .create-thread .ensures) (c .before .before .accept .ensures) (λ s h. rw (le-ltb topPriority (c .before .before .before .before .before .before .before .before .before .before .before .before .before .before .before .before .args .priority) (c .before .before .before .before .before .before .before .before .before .before .before .before .before .before .if1 .left), ← c .before .before .before .before .before .before .before .before .before .before .before .before .before .bad-ticks .ensures, c .before .before .before .before .before .before .before .before .before .before .before .before .if2 .left, lt-leb (length (s .threads)) (c .before .before .before .before .before .before .before .before .before .before .before .before .before .before .before .before .args .i) (omega (arith, holds-on h .threads)), ← c .before .before .before .before .before .before .before .before .before .load-thread .ensures s (h .says), c .before .before .before .before .before .before .before .before .if4 .left))
+returns-5 c =
+    let start = c .before .before .before .before .before .before .before .before .before .before .before .before .before .before .before .before in
+    let if1 = c .before .before .before .before .before .before .before .before .before .before .before .before .before .before .if1 in
+    let bad-ticks = c .before .before .before .before .before .before .before .before .before .before .before .before .before .bad-ticks in
+    let if2 = c .before .before .before .before .before .before .before .before .before .before .before .before .if2 in
+    let load-thread = c .before .before .before .before .before .before .before .before .before .load-thread in
+    let if4 = c .before .before .before .before .before .before .before .before .if4 in
+    then-does (c .before .before .before .before .before .before .create-thread .ensures) (c .before .before .accept .ensures) (λ s h. rw (le-ltb topPriority (start .args .priority) (if1 .left), ← bad-ticks .ensures, if2 .left, lt-leb (length (s .threads)) (start .args .i) (omega (arith, holds-on h .threads)), ← load-thread .ensures s (h .says), if4 .left))
 
 pub create-spec : {M : Type 1} → statement M
 create-spec =

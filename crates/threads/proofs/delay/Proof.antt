@@ -30,7 +30,9 @@ same-length-2 c = search needs
 
 returns-3 : tie.Need-returns-3
 unfolding doDelay
-returns-3 c = does-as (c .before .before .block .ensures) (λ s h. rw (← c .before .before .before .before .before .before .before .before .bad-ticks .ensures, c .before .before .before .before .before .before .before .if1 .left, ← c .before .before .before .before .before .may-not-wait .ensures s (h .says), c .before .before .before .before .if2 .left))
+returns-3 c =
+    let bad-ticks = c .before .before .before .before .before .before .before .before .bad-ticks in
+    does-as (c .before .before .block .ensures) (λ s h. rw (← bad-ticks .ensures, c .before .before .before .before .before .before .before .if1 .left, ← c .before .before .before .before .before .may-not-wait .ensures s (h .says), c .before .before .before .before .if2 .left))
 
 pub delay-spec : {M : Type 1} → statement M
 delay-spec =

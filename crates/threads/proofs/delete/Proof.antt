@@ -3,7 +3,7 @@ use borrow.Author.Needs.{needs}
 use Rattle.rules.specs.Threads.{doDelete}
 use Rattle.rules.specs.Board.{printer}
 use Rattle.waiting.proofs.Doing.{does-nothing, then-does}
-use Rattle.threads.proofs.There.{there}
+use Rattle.waiting.proofs.There.{there}
 use Rattle.threads.proofs.delete.Statement.{statement}
 use Rattle.threads.proofs.delete.Tie as tie
 
@@ -28,7 +28,9 @@ unfolding doDelete
 returns-2 c = does-nothing (c .before .before .before .before .before .before .before .pre .whole) (λ s e. rw (← c .before .before .before .before .no-thread .ensures s e, c .before .before .before .if1 .left, ← c .before .is-bound .ensures s e, c .if2 .taken))
 
 delete-thread-requires : tie.Need-delete-thread-requires
-delete-thread-requires c κs = (there printer _ (c .before .before .before .before .before .before .before .before .args .i) (c .before .before .before .before .before .no-thread .ensures) (c .before .before .before .before .if1 .left), c .before .before .before .before .before .before .before .before .pre .whole)
+delete-thread-requires c κs =
+    let start = c .before .before .before .before .before .before .before .before in
+    (there printer _ (start .args .i) (c .before .before .before .before .before .no-thread .ensures) (c .before .before .before .before .if1 .left), start .pre .whole)
 
 accept-requires : tie.Need-accept-requires
 accept-requires c κs = search needs
@@ -38,7 +40,12 @@ same-length-3 c = search needs
 
 returns-3 : tie.Need-returns-3
 unfolding doDelete
-returns-3 c = then-does (c .before .before .before .before .before .before .delete-thread .ensures) (c .before .before .accept .ensures) (λ s h. rw (← c .before .before .before .before .before .before .before .before .before .before .before .before .no-thread .ensures s (h .says), c .before .before .before .before .before .before .before .before .before .before .before .if1 .left, ← c .before .before .before .before .before .before .before .before .before .is-bound .ensures s (h .says), c .before .before .before .before .before .before .before .before .if2 .left))
+returns-3 c =
+    let no-thread = c .before .before .before .before .before .before .before .before .before .before .before .before .no-thread in
+    let if1 = c .before .before .before .before .before .before .before .before .before .before .before .if1 in
+    let is-bound = c .before .before .before .before .before .before .before .before .before .is-bound in
+    let if2 = c .before .before .before .before .before .before .before .before .if2 in
+    then-does (c .before .before .before .before .before .before .delete-thread .ensures) (c .before .before .accept .ensures) (λ s h. rw (← no-thread .ensures s (h .says), if1 .left, ← is-bound .ensures s (h .says), if2 .left))
 
 pub delete-spec : {M : Type 1} → statement M
 delete-spec =

@@ -3,7 +3,7 @@ use borrow.Author.Needs.{needs}
 use Rattle.rules.specs.Threads.{doResume}
 use Rattle.rules.specs.Board.{printer}
 use Rattle.waiting.proofs.Doing.{does-nothing, then-does}
-use Rattle.threads.proofs.There.{read-there}
+use Rattle.waiting.proofs.There.{read-there}
 use Rattle.threads.proofs.resume.Statement.{statement}
 use Rattle.threads.proofs.resume.Tie as tie
 
@@ -28,7 +28,9 @@ is-waiting-requires : tie.Need-is-waiting-requires
 is-waiting-requires c κs = search needs
 
 set-suspended-requires : tie.Need-set-suspended-requires
-set-suspended-requires c κs = (read-there printer _ (c .before .before .before .before .before .before .before .before .before .before .args .i) (c .before .before .before .before .before .before .before .thread-at .ensures) (c .before .before .before .before .before .if1 .left), c .before .before .before .before .before .before .before .before .before .before .pre .whole)
+set-suspended-requires c κs =
+    let start = c .before .before .before .before .before .before .before .before .before .before in
+    (read-there printer _ (start .args .i) (c .before .before .before .before .before .before .before .thread-at .ensures) (c .before .before .before .before .before .if1 .left), start .pre .whole)
 
 accept-requires : tie.Need-accept-requires
 accept-requires c κs = search needs
@@ -38,10 +40,18 @@ same-length-3 c = search needs
 
 returns-3 : tie.Need-returns-3
 unfolding doResume
-returns-3 c = then-does (c .before .before .before .before .before .before .set-suspended .ensures) (c .before .before .accept .ensures) (λ s h. rw (← c .before .before .before .before .before .before .before .before .before .before .before .before .before .before .thread-at .ensures s (h .says), c .before .before .before .before .before .before .before .before .before .before .before .before .if1 .left, c .before .before .before .before .before .before .before .before .before .before .if2 .left, ← c .before .before .before .before .before .before .before .before .before .is-waiting .ensures, c .before .before .before .before .before .before .before .before .if3 .taken))
+returns-3 c =
+    let thread-at = c .before .before .before .before .before .before .before .before .before .before .before .before .before .before .thread-at in
+    let if1 = c .before .before .before .before .before .before .before .before .before .before .before .before .if1 in
+    let if2 = c .before .before .before .before .before .before .before .before .before .before .if2 in
+    let is-waiting = c .before .before .before .before .before .before .before .before .before .is-waiting in
+    let if3 = c .before .before .before .before .before .before .before .before .if3 in
+    then-does (c .before .before .before .before .before .before .set-suspended .ensures) (c .before .before .accept .ensures) (λ s h. rw (← thread-at .ensures s (h .says), if1 .left, if2 .left, ← is-waiting .ensures, if3 .taken))
 
 restart-requires : tie.Need-restart-requires
-restart-requires c κs = (read-there printer _ (c .before .before .before .before .before .before .before .before .before .before .args .i) (c .before .before .before .before .before .before .before .thread-at .ensures) (c .before .before .before .before .before .if1 .left), c .before .before .before .before .before .before .before .before .before .before .pre .whole)
+restart-requires c κs =
+    let start = c .before .before .before .before .before .before .before .before .before .before in
+    (read-there printer _ (start .args .i) (c .before .before .before .before .before .before .before .thread-at .ensures) (c .before .before .before .before .before .if1 .left), start .pre .whole)
 
 accept-requires-2 : tie.Need-accept-requires-2
 accept-requires-2 c κs = search needs
@@ -51,7 +61,13 @@ same-length-4 c = search needs
 
 returns-4 : tie.Need-returns-4
 unfolding doResume
-returns-4 c = then-does (c .before .before .before .before .before .before .restart .ensures) (c .before .before .accept2 .ensures) (λ s h. rw (← c .before .before .before .before .before .before .before .before .before .before .before .before .before .before .thread-at .ensures s (h .says), c .before .before .before .before .before .before .before .before .before .before .before .before .if1 .left, c .before .before .before .before .before .before .before .before .before .before .if2 .left, ← c .before .before .before .before .before .before .before .before .before .is-waiting .ensures, c .before .before .before .before .before .before .before .before .if3 .left))
+returns-4 c =
+    let thread-at = c .before .before .before .before .before .before .before .before .before .before .before .before .before .before .thread-at in
+    let if1 = c .before .before .before .before .before .before .before .before .before .before .before .before .if1 in
+    let if2 = c .before .before .before .before .before .before .before .before .before .before .if2 in
+    let is-waiting = c .before .before .before .before .before .before .before .before .before .is-waiting in
+    let if3 = c .before .before .before .before .before .before .before .before .if3 in
+    then-does (c .before .before .before .before .before .before .restart .ensures) (c .before .before .accept2 .ensures) (λ s h. rw (← thread-at .ensures s (h .says), if1 .left, if2 .left, ← is-waiting .ensures, if3 .left))
 
 pub resume-spec : {M : Type 1} → statement M
 resume-spec =

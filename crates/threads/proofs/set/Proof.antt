@@ -4,7 +4,7 @@ use borrow.Author.Needs.{needs}
 use Rattle.rules.specs.Threads.{doSet}
 use Rattle.rules.specs.Board.{printer, topPriority}
 use Rattle.waiting.proofs.Doing.{does-nothing, then-does}
-use Rattle.threads.proofs.There.{read-there}
+use Rattle.waiting.proofs.There.{read-there}
 use Rattle.threads.proofs.set.Statement.{statement}
 use Rattle.threads.proofs.set.Tie as tie
 
@@ -27,20 +27,26 @@ same-length c = search needs
 
 returns-3 : tie.Need-returns-3
 unfolding doSet
-returns-3 c = does-nothing (c .before .before .before .before .before .before .before .before .pre .whole) (λ s e. rw (le-ltb topPriority (c .before .before .before .before .before .before .before .before .args .priority) (c .before .before .before .before .before .before .if1 .left), ← c .before .before .before .before .before .bad-ticks .ensures, c .before .before .before .before .if2 .left, ← c .before .before .thread-at .ensures s e, c .if3 .taken))
+returns-3 c =
+    let start = c .before .before .before .before .before .before .before .before in
+    does-nothing (start .pre .whole) (λ s e. rw (le-ltb topPriority (start .args .priority) (c .before .before .before .before .before .before .if1 .left), ← c .before .before .before .before .before .bad-ticks .ensures, c .before .before .before .before .if2 .left, ← c .before .before .thread-at .ensures s e, c .if3 .taken))
 
 same-length-2 : tie.Need-same-length-2
 same-length-2 c = search needs
 
 returns-4 : tie.Need-returns-4
 unfolding doSet
-returns-4 c = does-nothing (c .before .before .before .before .before .before .before .before .before .pre .whole) (λ s e. rw (le-ltb topPriority (c .before .before .before .before .before .before .before .before .before .args .priority) (c .before .before .before .before .before .before .before .if1 .left), ← c .before .before .before .before .before .before .bad-ticks .ensures, c .before .before .before .before .before .if2 .left, ← c .before .before .before .thread-at .ensures s e, c .before .if3 .left, eq-eqb (c .before .before .before .before .before .before .before .before .before .args .i) 0 (c .if4 .taken)))
+returns-4 c =
+    let start = c .before .before .before .before .before .before .before .before .before in
+    does-nothing (start .pre .whole) (λ s e. rw (le-ltb topPriority (start .args .priority) (c .before .before .before .before .before .before .before .if1 .left), ← c .before .before .before .before .before .before .bad-ticks .ensures, c .before .before .before .before .before .if2 .left, ← c .before .before .before .thread-at .ensures s e, c .before .if3 .left, eq-eqb (start .args .i) 0 (c .if4 .taken)))
 
 changes-line-requires : tie.Need-changes-line-requires
 changes-line-requires c κs = search needs
 
 move-settings-requires : tie.Need-move-settings-requires
-move-settings-requires c κs = (read-there printer _ (c .before .before .before .before .before .before .before .before .before .before .before .before .args .i) (c .before .before .before .before .before .before .thread-at .ensures) (c .before .before .before .before .if3 .left), c .before .before .before .before .before .before .before .before .before .before .before .before .pre .whole)
+move-settings-requires c κs =
+    let start = c .before .before .before .before .before .before .before .before .before .before .before .before in
+    (read-there printer _ (start .args .i) (c .before .before .before .before .before .before .thread-at .ensures) (c .before .before .before .before .if3 .left), start .pre .whole)
 
 accept-requires : tie.Need-accept-requires
 accept-requires c κs = search needs
@@ -50,10 +56,22 @@ same-length-3 c = search needs
 
 returns-5 : tie.Need-returns-5
 unfolding doSet
-returns-5 c = then-does (c .before .before .before .before .before .before .move-settings .ensures) (c .before .before .accept .ensures) (λ s h. rw (le-ltb topPriority (c .before .before .before .before .before .before .before .before .before .before .before .before .before .before .before .before .before .before .before .args .priority) (c .before .before .before .before .before .before .before .before .before .before .before .before .before .before .before .before .before .if1 .left), ← c .before .before .before .before .before .before .before .before .before .before .before .before .before .before .before .before .bad-ticks .ensures, c .before .before .before .before .before .before .before .before .before .before .before .before .before .before .before .if2 .left, ← c .before .before .before .before .before .before .before .before .before .before .before .before .before .thread-at .ensures s (h .says), c .before .before .before .before .before .before .before .before .before .before .before .if3 .left, ne-eqb (c .before .before .before .before .before .before .before .before .before .before .before .before .before .before .before .before .before .before .before .args .i) 0 (c .before .before .before .before .before .before .before .before .before .before .if4 .left), ← c .before .before .before .before .before .before .before .before .before .changes-line .ensures, c .before .before .before .before .before .before .before .before .if5 .taken))
+returns-5 c =
+    let start = c .before .before .before .before .before .before .before .before .before .before .before .before .before .before .before .before .before .before .before in
+    let if1 = c .before .before .before .before .before .before .before .before .before .before .before .before .before .before .before .before .before .if1 in
+    let bad-ticks = c .before .before .before .before .before .before .before .before .before .before .before .before .before .before .before .before .bad-ticks in
+    let if2 = c .before .before .before .before .before .before .before .before .before .before .before .before .before .before .before .if2 in
+    let thread-at = c .before .before .before .before .before .before .before .before .before .before .before .before .before .thread-at in
+    let if3 = c .before .before .before .before .before .before .before .before .before .before .before .if3 in
+    let if4 = c .before .before .before .before .before .before .before .before .before .before .if4 in
+    let changes-line = c .before .before .before .before .before .before .before .before .before .changes-line in
+    let if5 = c .before .before .before .before .before .before .before .before .if5 in
+    then-does (c .before .before .before .before .before .before .move-settings .ensures) (c .before .before .accept .ensures) (λ s h. rw (le-ltb topPriority (start .args .priority) (if1 .left), ← bad-ticks .ensures, if2 .left, ← thread-at .ensures s (h .says), if3 .left, ne-eqb (start .args .i) 0 (if4 .left), ← changes-line .ensures, if5 .taken))
 
 edit-settings-requires : tie.Need-edit-settings-requires
-edit-settings-requires c κs = (read-there printer _ (c .before .before .before .before .before .before .before .before .before .before .before .before .args .i) (c .before .before .before .before .before .before .thread-at .ensures) (c .before .before .before .before .if3 .left), c .before .before .before .before .before .before .before .before .before .before .before .before .pre .whole)
+edit-settings-requires c κs =
+    let start = c .before .before .before .before .before .before .before .before .before .before .before .before in
+    (read-there printer _ (start .args .i) (c .before .before .before .before .before .before .thread-at .ensures) (c .before .before .before .before .if3 .left), start .pre .whole)
 
 accept-requires-2 : tie.Need-accept-requires-2
 accept-requires-2 c κs = search needs
@@ -63,7 +81,17 @@ same-length-4 c = search needs
 
 returns-6 : tie.Need-returns-6
 unfolding doSet
-returns-6 c = then-does (c .before .before .before .before .before .before .edit-settings .ensures) (c .before .before .accept2 .ensures) (λ s h. rw (le-ltb topPriority (c .before .before .before .before .before .before .before .before .before .before .before .before .before .before .before .before .before .before .before .args .priority) (c .before .before .before .before .before .before .before .before .before .before .before .before .before .before .before .before .before .if1 .left), ← c .before .before .before .before .before .before .before .before .before .before .before .before .before .before .before .before .bad-ticks .ensures, c .before .before .before .before .before .before .before .before .before .before .before .before .before .before .before .if2 .left, ← c .before .before .before .before .before .before .before .before .before .before .before .before .before .thread-at .ensures s (h .says), c .before .before .before .before .before .before .before .before .before .before .before .if3 .left, ne-eqb (c .before .before .before .before .before .before .before .before .before .before .before .before .before .before .before .before .before .before .before .args .i) 0 (c .before .before .before .before .before .before .before .before .before .before .if4 .left), ← c .before .before .before .before .before .before .before .before .before .changes-line .ensures, c .before .before .before .before .before .before .before .before .if5 .left))
+returns-6 c =
+    let start = c .before .before .before .before .before .before .before .before .before .before .before .before .before .before .before .before .before .before .before in
+    let if1 = c .before .before .before .before .before .before .before .before .before .before .before .before .before .before .before .before .before .if1 in
+    let bad-ticks = c .before .before .before .before .before .before .before .before .before .before .before .before .before .before .before .before .bad-ticks in
+    let if2 = c .before .before .before .before .before .before .before .before .before .before .before .before .before .before .before .if2 in
+    let thread-at = c .before .before .before .before .before .before .before .before .before .before .before .before .before .thread-at in
+    let if3 = c .before .before .before .before .before .before .before .before .before .before .before .if3 in
+    let if4 = c .before .before .before .before .before .before .before .before .before .before .if4 in
+    let changes-line = c .before .before .before .before .before .before .before .before .before .changes-line in
+    let if5 = c .before .before .before .before .before .before .before .before .if5 in
+    then-does (c .before .before .before .before .before .before .edit-settings .ensures) (c .before .before .accept2 .ensures) (λ s h. rw (le-ltb topPriority (start .args .priority) (if1 .left), ← bad-ticks .ensures, if2 .left, ← thread-at .ensures s (h .says), if3 .left, ne-eqb (start .args .i) 0 (if4 .left), ← changes-line .ensures, if5 .left))
 
 pub set-spec : {M : Type 1} → statement M
 set-spec =

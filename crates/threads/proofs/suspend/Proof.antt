@@ -3,7 +3,7 @@ use borrow.Author.Needs.{needs}
 use Rattle.rules.specs.Threads.{doSuspend}
 use Rattle.rules.specs.Board.{printer}
 use Rattle.waiting.proofs.Doing.{does-nothing, then-does}
-use Rattle.threads.proofs.There.{read-there}
+use Rattle.waiting.proofs.There.{read-there}
 use Rattle.threads.proofs.suspend.Statement.{statement}
 use Rattle.threads.proofs.suspend.Tie as tie
 
@@ -32,13 +32,18 @@ same-length-3 c = search needs
 
 returns-3 : tie.Need-returns-3
 unfolding doSuspend
-returns-3 c = does-nothing (c .before .before .before .before .before .before .before .before .before .pre .whole) (λ s e. rw (← c .before .before .before .before .before .before .thread-at .ensures s e, c .before .before .before .before .if1 .left, c .before .before .before .if2 .left, ← c .before .is-bound .ensures s e, c .if3 .taken))
+returns-3 c =
+    let start = c .before .before .before .before .before .before .before .before .before in
+    does-nothing (start .pre .whole) (λ s e. rw (← c .before .before .before .before .before .before .thread-at .ensures s e, c .before .before .before .before .if1 .left, c .before .before .before .if2 .left, ← c .before .is-bound .ensures s e, c .if3 .taken))
 
 is-ready-requires : tie.Need-is-ready-requires
 is-ready-requires c κs = search needs
 
 stop-requires : tie.Need-stop-requires
-stop-requires c κs = (read-there printer _ (c .before .before .before .before .before .before .before .before .before .before .before .before .args .i) (c .before .before .before .before .before .before .before .before .before .thread-at .ensures) (c .before .before .before .before .before .before .before .if1 .left), c .before .before .before .before .before .before .before .before .before .before .before .before .pre .whole)
+stop-requires c κs =
+    let start = c .before .before .before .before .before .before .before .before .before .before .before .before in
+    let thread-at = c .before .before .before .before .before .before .before .before .before .thread-at in
+    (read-there printer _ (start .args .i) (thread-at .ensures) (c .before .before .before .before .before .before .before .if1 .left), start .pre .whole)
 
 accept-requires : tie.Need-accept-requires
 accept-requires c κs = search needs
@@ -48,10 +53,21 @@ same-length-4 c = search needs
 
 returns-4 : tie.Need-returns-4
 unfolding doSuspend
-returns-4 c = then-does (c .before .before .before .before .before .before .stop .ensures) (c .before .before .accept .ensures) (λ s h. rw (← c .before .before .before .before .before .before .before .before .before .before .before .before .before .before .before .before .thread-at .ensures s (h .says), ← c .before .before .before .before .before .before .before .before .before .is-ready .ensures, c .before .before .before .before .before .before .before .before .if4 .taken, c .before .before .before .before .before .before .before .before .before .before .before .before .before .before .if1 .left, c .before .before .before .before .before .before .before .before .before .before .before .before .before .if2 .left, ← c .before .before .before .before .before .before .before .before .before .before .before .is-bound .ensures s (h .says), c .before .before .before .before .before .before .before .before .before .before .if3 .left))
+returns-4 c =
+    let thread-at = c .before .before .before .before .before .before .before .before .before .before .before .before .before .before .before .before .thread-at in
+    let if1 = c .before .before .before .before .before .before .before .before .before .before .before .before .before .before .if1 in
+    let if2 = c .before .before .before .before .before .before .before .before .before .before .before .before .before .if2 in
+    let is-bound = c .before .before .before .before .before .before .before .before .before .before .before .is-bound in
+    let if3 = c .before .before .before .before .before .before .before .before .before .before .if3 in
+    let is-ready = c .before .before .before .before .before .before .before .before .before .is-ready in
+    let if4 = c .before .before .before .before .before .before .before .before .if4 in
+    then-does (c .before .before .before .before .before .before .stop .ensures) (c .before .before .accept .ensures) (λ s h. rw (← thread-at .ensures s (h .says), ← is-ready .ensures, if4 .taken, if1 .left, if2 .left, ← is-bound .ensures s (h .says), if3 .left))
 
 set-suspended-requires : tie.Need-set-suspended-requires
-set-suspended-requires c κs = (read-there printer _ (c .before .before .before .before .before .before .before .before .before .before .before .before .args .i) (c .before .before .before .before .before .before .before .before .before .thread-at .ensures) (c .before .before .before .before .before .before .before .if1 .left), c .before .before .before .before .before .before .before .before .before .before .before .before .pre .whole)
+set-suspended-requires c κs =
+    let start = c .before .before .before .before .before .before .before .before .before .before .before .before in
+    let thread-at = c .before .before .before .before .before .before .before .before .before .thread-at in
+    (read-there printer _ (start .args .i) (thread-at .ensures) (c .before .before .before .before .before .before .before .if1 .left), start .pre .whole)
 
 accept-requires-2 : tie.Need-accept-requires-2
 accept-requires-2 c κs = search needs
@@ -61,7 +77,15 @@ same-length-5 c = search needs
 
 returns-5 : tie.Need-returns-5
 unfolding doSuspend
-returns-5 c = then-does (c .before .before .before .before .before .before .set-suspended .ensures) (c .before .before .accept2 .ensures) (λ s h. rw (← c .before .before .before .before .before .before .before .before .before .before .before .before .before .before .before .before .thread-at .ensures s (h .says), ← c .before .before .before .before .before .before .before .before .before .is-ready .ensures, c .before .before .before .before .before .before .before .before .if4 .left, c .before .before .before .before .before .before .before .before .before .before .before .before .before .before .if1 .left, c .before .before .before .before .before .before .before .before .before .before .before .before .before .if2 .left, ← c .before .before .before .before .before .before .before .before .before .before .before .is-bound .ensures s (h .says), c .before .before .before .before .before .before .before .before .before .before .if3 .left))
+returns-5 c =
+    let thread-at = c .before .before .before .before .before .before .before .before .before .before .before .before .before .before .before .before .thread-at in
+    let if1 = c .before .before .before .before .before .before .before .before .before .before .before .before .before .before .if1 in
+    let if2 = c .before .before .before .before .before .before .before .before .before .before .before .before .before .if2 in
+    let is-bound = c .before .before .before .before .before .before .before .before .before .before .before .is-bound in
+    let if3 = c .before .before .before .before .before .before .before .before .before .before .if3 in
+    let is-ready = c .before .before .before .before .before .before .before .before .before .is-ready in
+    let if4 = c .before .before .before .before .before .before .before .before .if4 in
+    then-does (c .before .before .before .before .before .before .set-suspended .ensures) (c .before .before .accept2 .ensures) (λ s h. rw (← thread-at .ensures s (h .says), ← is-ready .ensures, if4 .left, if1 .left, if2 .left, ← is-bound .ensures s (h .says), if3 .left))
 
 pub suspend-spec : {M : Type 1} → statement M
 suspend-spec =

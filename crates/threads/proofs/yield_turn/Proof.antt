@@ -37,7 +37,10 @@ same-length-2 c = search needs
 
 returns-2 : tie.Need-returns-2
 unfolding doYield
-returns-2 c = then-does (c .before .before .before .before .before .before .to-tail .ensures) (c .before .before .accept2 .ensures) (λ s h. rw (le-ltb 0 (s .lock) (omega (arith, c .before .before .before .before .before .before .before .before .before .before .before .lock .ensures s (h .says)))) (ap (λ i. acceptThreads s (move i (λ x. x) (s .threads))) (sym (c .before .before .before .before .before .before .before .before .running .ensures s (h .says)))))
+returns-2 c =
+    let lock = c .before .before .before .before .before .before .before .before .before .before .before .lock in
+    let running = c .before .before .before .before .before .before .before .before .running in
+    then-does (c .before .before .before .before .before .before .to-tail .ensures) (c .before .before .accept2 .ensures) (λ s h. rw (le-ltb 0 (s .lock) (omega (arith, lock .ensures s (h .says)))) (ap (λ i. acceptThreads s (move i (λ x. x) (s .threads))) (sym (running .ensures s (h .says)))))
 
 pub yield-turn-spec : {M : Type 1} → statement M
 yield-turn-spec =

@@ -1,5 +1,5 @@
 -- `time::charged` meets its contract: the lock and the running thread are the ones that the table says. Assumes nothing.
-use mathlib.Core.Path.{refl, sym, _∙_}
+use mathlib.Core.Path.{refl}
 use native.Mathlib.Omega.{arith}
 use borrow.Author.Tests.{eq-eqb, ne-eqb}
 use borrow.Author.Needs.{needs}
@@ -16,7 +16,7 @@ same-length c = search needs
 
 returns : tie.Need-returns
 unfolding charged
-returns c = becomes-same (c .before .before .before .before .pre .whole) (λ s h. rw (ne-eqb (s .lock) 0 (λ z. c .if1 .taken (c .before .lock .ensures s (h .says) ∙ z))))
+returns c = becomes-same (c .before .before .before .before .pre .whole) (λ s h. rw (ne-eqb (s .lock) 0 (omega (arith, c .before .lock .ensures s (h .says)))))
 
 running-requires : tie.Need-running-requires
 running-requires c κs = search needs
@@ -29,7 +29,7 @@ same-length-2 c = search needs
 
 returns-2 : tie.Need-returns-2
 unfolding charged
-returns-2 c = becomes-as (c .before .before .charge .ensures) (λ s h. rw (eq-eqb (s .lock) 0 (sym (c .before .before .before .before .before .before .before .lock .ensures s (h .says)) ∙ c .before .before .before .before .before .before .if1 .left), c .before .before .before .before .running .ensures s (h .says)))
+returns-2 c = becomes-as (c .before .before .charge .ensures) (λ s h. rw (eq-eqb (s .lock) 0 (omega (arith, c .before .before .before .before .before .before .before .lock .ensures s (h .says))), c .before .before .before .before .running .ensures s (h .says)))
 
 pub charged-spec : {M : Type 1} → statement M
 charged-spec =

@@ -41,7 +41,11 @@ same-length-3 c = search needs
 
 returns-3 : tie.Need-returns-3
 unfolding countDown
-returns-3 c = becomes-as (c .before .before .end-wait .ensures) (λ s h. rw (← c .before .before .before .before .before .before .before .before .before .before .load-thread .ensures s (h .says), ← c .before .before .before .before .before .before .before .before .before .is-waiting .ensures, not-false (c .before .before .before .before .before .before .before .before .before .is-waiting .result) (c .before .before .before .before .before .before .before .before .if1 .left), ← c .before .before .before .before .before .before .before .counter-of .ensures, c .before .before .before .before .before .if3 .taken, c .before .before .before .timed-out .ensures))
+returns-3 c =
+    let load-thread = c .before .before .before .before .before .before .before .before .before .before .load-thread in
+    let is-waiting = c .before .before .before .before .before .before .before .before .before .is-waiting in
+    let if1 = c .before .before .before .before .before .before .before .before .if1 in
+    becomes-as (c .before .before .end-wait .ensures) (λ s h. rw (← load-thread .ensures s (h .says), ← is-waiting .ensures, not-false (is-waiting .result) (if1 .left), ← c .before .before .before .before .before .before .before .counter-of .ensures, c .before .before .before .before .before .if3 .taken, c .before .before .before .timed-out .ensures))
 
 sub-set-counter : tie.Need-sub-set-counter
 sub-set-counter c = search needs
@@ -54,7 +58,10 @@ same-length-4 c = search needs
 
 returns-4 : tie.Need-returns-4
 unfolding countDown
-returns-4 c = becomes-as (c .before .before .set-counter .ensures) (λ s h. rw (← c .before .before .before .before .before .before .before .before .before .load-thread .ensures s (h .says), ← c .before .before .before .before .before .before .before .before .is-waiting .ensures, not-false (c .before .before .before .before .before .before .before .before .is-waiting .result) (c .before .before .before .before .before .before .before .if1 .left), ← c .before .before .before .before .before .before .counter-of .ensures, ne-eqb _ _ (c .before .before .before .before .before .if2 .left), ne-eqb _ _ (c .before .before .before .before .if3 .left), sub-one))
+returns-4 c =
+    let load-thread = c .before .before .before .before .before .before .before .before .before .load-thread in
+    let is-waiting = c .before .before .before .before .before .before .before .before .is-waiting in
+    becomes-as (c .before .before .set-counter .ensures) (λ s h. rw (← load-thread .ensures s (h .says), ← is-waiting .ensures, not-false (is-waiting .result) (c .before .before .before .before .before .before .before .if1 .left), ← c .before .before .before .before .before .before .counter-of .ensures, ne-eqb _ _ (c .before .before .before .before .before .if2 .left), ne-eqb _ _ (c .before .before .before .before .if3 .left), sub-one))
 
 pub count-down-spec : {M : Type 1} → statement M
 count-down-spec =

@@ -34,7 +34,9 @@ same-length-2 c = search needs
 
 returns-2 : tie.Need-returns-2
 unfolding doLock
-returns-2 c = then-does (c .before .before .before .before .before .before .set-lock .ensures) (c .before .before .accept .ensures) (λ s h. let n = c .before .before .before .before .before .before .before .before .before .lock .ensures s (h .says) in let m : suc (s .lock) ≡ c .before .before .before .before .before .before .before .before .before .lock .result + 1 = omega (arith, n) in rw (lt-leb mostLock (s .lock) (omega (arith, n)), m))
+returns-2 c =
+    let lock = c .before .before .before .before .before .before .before .before .before .lock in
+    then-does (c .before .before .before .before .before .before .set-lock .ensures) (c .before .before .accept .ensures) (λ s h. let n = lock .ensures s (h .says) in let m : suc (s .lock) ≡ lock .result + 1 = omega (arith, n) in rw (lt-leb mostLock (s .lock) (omega (arith, n)), m))
 
 pub lock-spec : {M : Type 1} → statement M
 lock-spec =

@@ -20,7 +20,9 @@ same-length c = search needs
 
 returns : tie.Need-returns
 unfolding doTick
-returns c = then-does (c .before .before .before .before .before .before .before .before .before .before .charged .ensures ⨾ c .before .before .before .before .before .before .timeouts .ensures) (c .before .before .accept .ensures) (λ s h. rw (holds-on h .threads))
+returns c =
+    let charged = c .before .before .before .before .before .before .before .before .before .before .charged in
+    then-does (charged .ensures ⨾ c .before .before .before .before .before .before .timeouts .ensures) (c .before .before .accept .ensures) (λ s h. rw (holds-on h .threads))
 
 pub tick-spec : {M : Type 1} → statement M
 tick-spec =

@@ -32,7 +32,10 @@ same-length-2 c = search needs
 
 returns-2 : tie.Need-returns-2
 unfolding doUnlock
-returns-2 c = then-does (c .before .before .before .before .before .before .set-lock .ensures) (c .before .before .accept .ensures) (λ s h. let n = c .before .before .before .before .before .before .before .before .before .lock .ensures s (h .says) in rw (ne-eqb (s .lock) 0 (λ z. c .before .before .before .before .before .before .before .before .if1 .left (n ∙ z)), sub-one, n))
+returns-2 c =
+    let lock = c .before .before .before .before .before .before .before .before .before .lock in
+    let if1 = c .before .before .before .before .before .before .before .before .if1 in
+    then-does (c .before .before .before .before .before .before .set-lock .ensures) (c .before .before .accept .ensures) (λ s h. let n = lock .ensures s (h .says) in rw (ne-eqb (s .lock) 0 (λ z. if1 .left (n ∙ z)), sub-one, n))
 
 pub unlock-spec : {M : Type 1} → statement M
 unlock-spec =

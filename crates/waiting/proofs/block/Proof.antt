@@ -25,7 +25,10 @@ same-length c = search needs
 
 returns : tie.Need-returns
 unfolding block
-returns c = does (c .before .before .before .before .before .before .change-wait .ensures ⨾ c .before .before .settle .ensures) (λ s h. ap (λ i. gives (settle (withThreads (move i (begun (c .before .before .before .before .before .before .before .before .before .before .before .args .w) (c .before .before .before .before .before .before .before .before .before .before .before .args .parcel)) (s .threads)) s)) Blocked) (sym (c .before .before .before .before .before .before .before .before .running .ensures s (h .says))))
+returns c =
+    let start = c .before .before .before .before .before .before .before .before .before .before .before in
+    let running = c .before .before .before .before .before .before .before .before .running in
+    does (c .before .before .before .before .before .before .change-wait .ensures ⨾ c .before .before .settle .ensures) (λ s h. ap (λ i. gives (settle (withThreads (move i (begun (start .args .w) (start .args .parcel)) (s .threads)) s)) Blocked) (sym (running .ensures s (h .says))))
 
 pub block-spec : {M : Type 1} → statement M
 block-spec =

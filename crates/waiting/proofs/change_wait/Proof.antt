@@ -24,7 +24,11 @@ same-length c = search needs
 
 returns : tie.Need-returns
 unfolding move
-returns c = c .before .before .before .before .before .before .before .before .before .before .before .before .before .before .leave .ensures ⨾ edits (c .before .before .before .before .before .before .before .before .before .before .before .before .before .before .before .before .before .args .i) (withWait (c .before .before .before .before .before .before .before .before .before .before .before .before .before .before .before .before .before .args .w)) (withOutcome (c .before .before .before .before .before .before .before .before .before .before .before .before .before .before .before .before .before .args .outcome) (c .before .before .before .before .before .before .before .before .before .before .before .before .before .before .before .before .before .args .parcel)) (c .before .before .before .before .before .before .before .before .before .before .before .before .before .before .before .before .before .pre .0) (c .before .before .before .before .before .before .before .before .before .before .set-wait .ensures) (c .before .before .before .before .before .before .set-outcome .ensures) ⨾ c .before .before .join .ensures .1
+returns c =
+    let start = c .before .before .before .before .before .before .before .before .before .before .before .before .before .before .before .before .before in
+    let leave = c .before .before .before .before .before .before .before .before .before .before .before .before .before .before .leave in
+    let set-wait = c .before .before .before .before .before .before .before .before .before .before .set-wait in
+    leave .ensures ⨾ edits (start .args .i) (withWait (start .args .w)) (withOutcome (start .args .outcome) (start .args .parcel)) (start .pre .0) (set-wait .ensures) (c .before .before .before .before .before .before .set-outcome .ensures) ⨾ c .before .before .join .ensures .1
 
 pub change-wait-spec : {M : Type 1} → statement M
 change-wait-spec =

@@ -29,7 +29,9 @@ same-length-2 c = search needs
 
 returns-3 : tie.Need-returns-3
 unfolding mustWait
-returns-3 c = λ kind e. does-as (c .before .before .block .ensures) (λ s h. rw (ne-eqb (c .before .before .before .before .before .before .before .before .before .args .n) 0 (c .before .before .before .before .before .before .before .if1 .left), sym (c .before .before .before .before .before .may-not-wait .ensures s (h .says)) ∙ c .before .before .before .before .if2 .left) (ap (λ w. block s w (c .before .before .before .before .before .before .before .before .before .args .parcel)) (sym e)))
+returns-3 c =
+    let start = c .before .before .before .before .before .before .before .before .before in
+    λ kind e. does-as (c .before .before .block .ensures) (λ s h. rw (ne-eqb (start .args .n) 0 (c .before .before .before .before .before .before .before .if1 .left), sym (c .before .before .before .before .before .may-not-wait .ensures s (h .says)) ∙ c .before .before .before .before .if2 .left) (ap (λ w. block s w (start .args .parcel)) (sym e)))
 
 pub must-wait-spec : {M : Type 1} → statement M
 must-wait-spec =

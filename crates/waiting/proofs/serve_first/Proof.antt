@@ -20,7 +20,9 @@ same-length c = search needs
 
 returns : tie.Need-returns
 unfolding serve
-returns c = (c .before .before .end-wait .ensures .whole, λ l e. becomes-as (c .before .before .end-wait .ensures) (λ s h. ap (λ i. withThreads (endWait i (c .before .before .before .before .before .before .before .before .args .outcome) 0 (s .threads)) s) (c .before .before .before .before .before .first-of .ensures .1 s l (h .says) e)))
+returns c =
+    let start = c .before .before .before .before .before .before .before .before in
+    (c .before .before .end-wait .ensures .whole, λ l e. becomes-as (c .before .before .end-wait .ensures) (λ s h. ap (λ i. withThreads (endWait i (start .args .outcome) 0 (s .threads)) s) (c .before .before .before .before .before .first-of .ensures .1 s l (h .says) e)))
 
 same-length-2 : tie.Need-same-length-2
 same-length-2 c = search needs

@@ -40,7 +40,9 @@ outcome-ok-requires c κs = search needs
 
 returns-5 : tie.Need-returns-5
 unfolding usedTest
-returns-5 c s e = rw (← used-test, sym (c .before .before .before .before .before .before .before .before .settings-ok .ensures) ∙ not-false _ (c .before .before .before .before .before .before .before .if1 .left), sym (c .before .before .before .before .before .before .mail-ok .ensures) ∙ not-false _ (c .before .before .before .before .before .if2 .left), sym (c .before .before .before .before .counter-ok .ensures) ∙ not-false _ (c .before .before .before .if3 .left), sym (c .before .before .object-ok .ensures s e) ∙ not-false _ (c .before .if4 .left)) (c .outcome-ok .ensures)
+returns-5 c s e =
+    let settings-ok = c .before .before .before .before .before .before .before .before .settings-ok in
+    rw (← used-test, sym (settings-ok .ensures) ∙ not-false _ (c .before .before .before .before .before .before .before .if1 .left), sym (c .before .before .before .before .before .before .mail-ok .ensures) ∙ not-false _ (c .before .before .before .before .before .if2 .left), sym (c .before .before .before .before .counter-ok .ensures) ∙ not-false _ (c .before .before .before .if3 .left), sym (c .before .before .object-ok .ensures s e) ∙ not-false _ (c .before .if4 .left)) (c .outcome-ok .ensures)
 
 pub used-ok-spec : {M : Type 1} → statement M
 used-ok-spec =

@@ -16,7 +16,9 @@ same-length : tie.Need-same-length
 same-length c = search needs
 
 returns : tie.Need-returns
-returns c = edits (c .before .before .before .before .before .before .before .before .before .args .i) (withSettings (c .before .before .before .before .before .before .before .before .before .args .priority) (c .before .before .before .before .before .before .before .before .before .args .turn)) filled (c .before .before .before .before .before .before .before .before .before .pre .0) (c .before .before .before .before .before .before .set-settings .ensures) (c .before .before .fill .ensures)
+returns c =
+    let start = c .before .before .before .before .before .before .before .before .before in
+    edits (start .args .i) (withSettings (start .args .priority) (start .args .turn)) filled (start .pre .0) (c .before .before .before .before .before .before .set-settings .ensures) (c .before .before .fill .ensures)
 
 pub edit-settings-spec : {M : Type 1} → statement M
 edit-settings-spec = tie.close (tie.spec set-settings-requires fill-requires same-length returns)

@@ -19,7 +19,9 @@ same-length c = search needs
 
 returns : tie.Need-returns
 unfolding move
-returns c = c .before .before .before .before .before .before .before .before .before .before .leave .ensures ⨾ c .before .before .before .before .before .before .set-suspended .ensures ⨾ c .before .before .join .ensures .1
+returns c =
+    let leave = c .before .before .before .before .before .before .before .before .before .before .leave in
+    leave .ensures ⨾ c .before .before .before .before .before .before .set-suspended .ensures ⨾ c .before .before .join .ensures .1
 
 pub restart-spec : {M : Type 1} → statement M
 restart-spec =

@@ -26,7 +26,11 @@ same-length c = search needs
 
 returns : tie.Need-returns
 unfolding move
-returns c = c .before .before .before .before .before .before .before .before .before .before .before .before .before .before .leave .ensures ⨾ edits (c .before .before .before .before .before .before .before .before .before .before .before .before .before .before .before .before .before .args .i) (withSuspended true) (withWait (Nothing 0)) (c .before .before .before .before .before .before .before .before .before .before .before .before .before .before .before .before .before .pre .0) (c .before .before .before .before .before .before .before .before .before .before .set-suspended .ensures) (c .before .before .before .before .before .before .set-wait .ensures) ⨾ c .before .before .join .ensures .1
+returns c =
+    let start = c .before .before .before .before .before .before .before .before .before .before .before .before .before .before .before .before .before in
+    let leave = c .before .before .before .before .before .before .before .before .before .before .before .before .before .before .leave in
+    let set-suspended = c .before .before .before .before .before .before .before .before .before .before .set-suspended in
+    leave .ensures ⨾ edits (start .args .i) (withSuspended true) (withWait (Nothing 0)) (start .pre .0) (set-suspended .ensures) (c .before .before .before .before .before .before .set-wait .ensures) ⨾ c .before .before .join .ensures .1
 
 pub stop-spec : {M : Type 1} → statement M
 stop-spec =

@@ -1,9 +1,9 @@
--- `threads::no_thread` meets its contract: the test is the rule's, of the thread that the number reads as. Assumes nothing.
+-- `waiting::no_thread` meets its contract: the test is the rule's, of the thread that the number reads as. Assumes nothing.
 use mathlib.Core.Bool.{not}
 use mathlib.Core.Path.{ap}
 use borrow.Author.Needs.{needs}
-use Rattle.threads.proofs.no_thread.Statement.{statement}
-use Rattle.threads.proofs.no_thread.Tie as tie
+use Rattle.waiting.proofs.no_thread.Statement.{statement}
+use Rattle.waiting.proofs.no_thread.Tie as tie
 
 thread-at-requires : tie.Need-thread-at-requires
 thread-at-requires c κs = search needs

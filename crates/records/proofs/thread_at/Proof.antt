@@ -1,4 +1,4 @@
--- `threads::thread_at` meets its contract: a number out of range reads as a free record. Assumes nothing.
+-- `records::thread_at` meets its contract: a number out of range reads as a free record. Assumes nothing.
 use mathlib.Core.Path.{sym}
 use native.Mathlib.Omega.{arith}
 use lib.ListN.{List·getD-eq-default}
@@ -6,8 +6,8 @@ use borrow.Author.Needs.{needs}
 use Rattle.rules.specs.State.{free}
 use Rattle.rules.specs.Board.{printer}
 use Rattle.layout.proofs.Held.{said-on}
-use Rattle.threads.proofs.thread_at.Statement.{statement}
-use Rattle.threads.proofs.thread_at.Tie as tie
+use Rattle.records.proofs.thread_at.Statement.{statement}
+use Rattle.records.proofs.thread_at.Tie as tie
 
 returns : tie.Need-returns
 returns c = λ s e. sym (List·getD-eq-default (s .threads) free (omega (arith, said-on printer _ e .threads)))

@@ -1,11 +1,11 @@
--- `threads::break_off` meets its contract: each way out is a branch of the rule. Assumes nothing.
+-- `waiting::break_off` meets its contract: each way out is a branch of the rule. Assumes nothing.
 use borrow.Author.Needs.{needs}
 use Rattle.rules.specs.Threads.{breakOff}
 use Rattle.rules.specs.Board.{printer}
 use Rattle.waiting.proofs.Doing.{does-nothing, then-does}
-use Rattle.threads.proofs.There.{there}
-use Rattle.threads.proofs.break_off.Statement.{statement}
-use Rattle.threads.proofs.break_off.Tie as tie
+use Rattle.waiting.proofs.There.{there}
+use Rattle.waiting.proofs.break_off.Statement.{statement}
+use Rattle.waiting.proofs.break_off.Tie as tie
 
 no-thread-requires : tie.Need-no-thread-requires
 no-thread-requires c κs = search needs
@@ -35,7 +35,11 @@ same-length-3 c = search needs
 
 returns-3 : tie.Need-returns-3
 unfolding breakOff
-returns-3 c = then-does (c .before .before .before .before .before .before .end-wait .ensures) (c .before .before .accept .ensures) (λ s h. rw (← c .before .before .before .before .before .before .before .before .before .before .no-thread .ensures s (h .says), c .before .before .before .before .before .before .before .before .before .if1 .left, c .before .before .before .before .before .before .before .before .if2 .left))
+returns-3 c =
+    let no-thread = c .before .before .before .before .before .before .before .before .before .before .no-thread in
+    let if1 = c .before .before .before .before .before .before .before .before .before .if1 in
+    let if2 = c .before .before .before .before .before .before .before .before .if2 in
+    then-does (c .before .before .before .before .before .before .end-wait .ensures) (c .before .before .accept .ensures) (λ s h. rw (← no-thread .ensures s (h .says), if1 .left, if2 .left))
 
 pub break-off-spec : {M : Type 1} → statement M
 break-off-spec =

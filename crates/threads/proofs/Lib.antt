@@ -1,2 +1,0 @@
--- Laws of threads.
-pub mod There
