@@ -21,7 +21,7 @@ fn read_at(bytes: &[u8], at: usize) -> Read
 {
     if at < bytes.len() {
         let n = bytes.len() - at;
-        if 12 <= n {
+        if rules::REQUEST <= n {
             Read::Record { at }
         } else {
             Read::Short { n }

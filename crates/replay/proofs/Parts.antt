@@ -157,7 +157,3 @@ after-nothing b s h =
     let number : s .number + length (s .held) / requestLength ≡ s .number = omega arith in
     ap (λ l. stand (s .number + length l / requestLength) (tableAfter b (s .table) (map cleanly (wholeRecords l))) (leftOver l)) (append-nil (s .held))
     ∙ (λ j. stand (number j) (tableAfter b (s .table) (map cleanly (none-whole (s .held) h j))) (drop (none j * requestLength) (s .held)))
-
-pub nothing-printed : (b : Board) (s : Stand) → length (s .held) < requestLength → lines b s [] ≡ []
-unfolding traceFrom
-nothing-printed b s h = ap (λ l. traceFrom b (s .number) (s .table) (wholeRecords l)) (append-nil (s .held)) ∙ ap (traceFrom b (s .number) (s .table)) (none-whole (s .held) h)

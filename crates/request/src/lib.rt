@@ -80,7 +80,7 @@ fn request_of(operation: u8, object: u8, priority: u8, number: u32, parcel: u32)
 pub fn decode(record: &[u8]) -> Decoded
     ensures { λ r. ⌜ r ≡ decodeRequest (now («record» .entry)) ⌝ }
 {
-    if record.len() != 12 {
+    if record.len() != rules::REQUEST {
         return Decoded::Bad;
     }
     if record[3] != 0 {

@@ -1,1 +1,2 @@
-// That the promises are tight, as a theorem: the statement in specs/, the proof in proofs/. There is no code here.
+// What the functions' own contracts say, as theorems: each public function's promise is tight, and the door's meets the demands. There is
+// no code here.

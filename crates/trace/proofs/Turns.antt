@@ -1,11 +1,10 @@
--- A turn that serves what has come goes on as the trace does: the bytes that are held and those that a read put behind them are the first of
+-- What is served goes on as the trace does: the bytes that are held and those that a read put behind them are the first of
 -- the block, and so is what they leave over. Assumes nothing.
-use mathlib.Core.Bool.{true, false, true≢false}
 use mathlib.Core.Path.{_≡_, refl, sym, ap, subst, _∙_}
 use mathlib.Core.List.{List, [], _∷_, _++_, map, append-nil}
 use Prim.Native.Nat.{ℕ, _+_, _-_, _*_, _/_, _%_, _≤_, _<_}
 use native.Mathlib.Omega.{arith}
-use lib.ListN.{length, take, drop, take-append-drop, length-take}
+use lib.ListN.{length, take, drop, take-append-drop, length-append, length-drop}
 use lib.Seq.{sets, sets-eq, take-take, take-append-seam, length-take-le}
 use Rattle.rules.specs.Board.{printer}
 use Rattle.rules.specs.Requests.{requestLength}
@@ -15,8 +14,8 @@ use Rattle.text.specs.Text.{traceText}
 use Rattle.text.specs.Puts.{Puts}
 use Rattle.replay.specs.Replay.{Replayed, leftOver}
 use Rattle.replay.specs.Parts.{Stand, begins, lines, after, last}
-use Rattle.replay.proofs.Parts.{left-length, as-one, after-nothing, nothing-printed}
-use Rattle.trace.specs.Going.{standing, GoesOn, Traced, Ended}
+use Rattle.replay.proofs.Parts.{left-length, as-one, after-nothing}
+use Rattle.trace.specs.Going.{standing, Traced, Ended}
 
 -- what is stored at the front of a list stands there
 front : (l vs : List ℕ) → length vs ≤ length l → take (length vs) (sets l 0 vs) ≡ vs
@@ -44,55 +43,55 @@ module _ (block block′ : List ℕ) (held n : ℕ) (stay : take held block′ �
       let size : length (leftOver (take n block′)) ≡ n % requestLength = left-length (take n block′) ∙ ap (λ k. k % requestLength) (length-take-le n block′ inside) in
       subst (λ k. take k (sets block′ 0 (leftOver (take n block′))) ≡ leftOver (take n block′)) size (front block′ (leftOver (take n block′)) (omega (arith, size)))
 
-  pub served-on : (number : ℕ) (t out t′ out′ block″ : List ℕ) (number′ held′ next : ℕ)
+  part-size : length part ≡ n - held
+  part-size = length-drop held (take n block′) ∙ ap (λ k. k - held) (length-take-le n block′ inside)
+
+  -- where the trace stands when the part is served
+  served-on : (number : ℕ) (t out t′ out′ block″ : List ℕ) (number′ held′ next : ℕ)
       → Replayed t (take n block′) number out t′ out′ next → number′ ≡ number + n / requestLength → held′ ≡ n % requestLength
-      → block″ ≡ sets block′ 0 (leftOver (take n block′)) → next ≤ length out
-      → GoesOn (standing number t block held) (standing number′ t′ block″ held′) (take next out′)
+      → block″ ≡ sets block′ 0 (leftOver (take n block′))
+      → standing number′ t′ block″ held′ ≡ after printer (standing number t block held) part
   unfolding after
-  served-on number t out t′ out′ block″ number′ held′ next r en eh eb room =
+  served-on number t out t′ out′ block″ number′ held′ next r en eh eb =
       let size : length (take n block′) ≡ n = length-take-le n block′ inside in
       let count : number′ ≡ number + length (take n block′) / requestLength = en ∙ ap (λ k. number + k / requestLength) (sym size) in
-      record {
-        part = part;
-        stands =
-            (λ j. record { number = count j; table = r .table j; held = ((λ i. take (eh i) (eb i)) ∙ left) j })
-            ∙ ap (on number t) (sym come);
-        prints = puts-front (r .lines) room ∙ ap (λ l. traceText (traceFrom printer number t (wholeRecords l))) (sym come);
-      }
-
--- nothing came
-pub nothing-came : (number : ℕ) (t block block′ : List ℕ) (held : ℕ) (out : List ℕ) → held < requestLength → take held block′ ≡ take held block
-    → GoesOn (standing number t block held) (standing number t block′ held) (take 0 out)
-nothing-came number t block block′ held out h e =
-    let s = standing number t block held in
-    let few : length (take held block) < requestLength = omega (arith, length-take held block) in
-    record {
-      part = [];
-      stands = ap (λ l. record { number = number; table = t; held = l }) e ∙ sym (after-nothing printer s few);
-      prints = sym (ap traceText (nothing-printed printer s few));
-    }
+      (λ j. record { number = count j; table = r .table j; held = ((λ i. take (eh i) (eb i)) ∙ left) j })
+      ∙ ap (on number t) (sym come)
 
 -- THE RUN
 
 -- nothing has come
-pub none-seen : (t : List ℕ) (block : List ℕ) → Traced t (standing 0 t block 0)
-none-seen t block = record { seen = []; stands = sym (after-nothing printer (begins t) (omega arith)) }
+pub none-seen : (t : List ℕ) (block : List ℕ) → Traced t 0 (standing 0 t block 0)
+none-seen t block = record { seen = []; size = refl; stands = sym (after-nothing printer (begins t) (omega arith)) }
 
-pub traced-on : {t : List ℕ} {s s′ : Stand} {out : List ℕ} → Traced t s → GoesOn s s′ out → Traced t s′
-traced-on {t} {s} {s′} p g = record {
-  seen = p .seen ++ g .part;
-  stands = g .stands ∙ ap (λ x. after printer x (g .part)) (p .stands) ∙ as-one printer (begins t) (p .seen) (g .part);
+-- a part comes
+traced-on : {t : List ℕ} {bytes : ℕ} {s s′ : Stand} (part : List ℕ) → Traced t bytes s → s′ ≡ after printer s part → Traced t (bytes + length part) s′
+traced-on {t} {bytes} part p e = record {
+  seen = p .seen ++ part;
+  size = length-append (p .seen) part ∙ ap (λ k. k + length part) (p .size);
+  stands = e ∙ ap (λ x. after printer x part) (p .stands) ∙ as-one printer (begins t) (p .seen) part;
 }
 
--- the run ends before its input
-pub stopped : {t out : List ℕ} {s : Stand} → Traced t s → Ended t (s .table) (s .number) false out
-stopped {s = s} p = record { held = s .held; traced = p; prints = λ e. absurd (true≢false (sym e)) }
+-- a read has put bytes behind those that are held, and they are served
+pub traced-part : {t : List ℕ} {bytes : ℕ} (block block′ : List ℕ) (held n : ℕ) → take held block′ ≡ take held block → held ≤ n → n ≤ length block′
+    → (number : ℕ) (t₁ out t′ out′ block″ : List ℕ) (number′ held′ next : ℕ) → Traced t bytes (standing number t₁ block held)
+    → Replayed t₁ (take n block′) number out t′ out′ next → number′ ≡ number + n / requestLength → held′ ≡ n % requestLength
+    → block″ ≡ sets block′ 0 (leftOver (take n block′)) → Traced t (bytes + (n - held)) (standing number′ t′ block″ held′)
+traced-part {t} {bytes} block block′ held n stay behind inside number t₁ out t′ out′ block″ number′ held′ next p r en eh eb =
+    let stands = served-on block block′ held n stay behind inside number t₁ out t′ out′ block″ number′ held′ next r en eh eb in
+    subst (λ k. Traced t (bytes + k) (standing number′ t′ block″ held′)) (part-size block block′ held n stay behind inside) (traced-on (drop held (take n block′)) p stands)
 
--- the run ends with its input
-pub finished : {t out out′ : List ℕ} {s : Stand} {held next : ℕ} → Traced t s → length (s .held) ≡ held
-    → Puts out 0 (traceText (shortLine held)) out′ next → next ≤ length out → Ended t (s .table) (s .number) true (take next out′)
-finished {s = s} p h q room = record {
-  held = s .held;
+-- a read has put nothing behind them
+pub traced-same : {t : List ℕ} {bytes number : ℕ} {t′ : List ℕ} (block block′ : List ℕ) (held : ℕ) → take held block′ ≡ take held block
+    → Traced t bytes (standing number t′ block held) → Traced t bytes (standing number t′ block′ held)
+traced-same {t} {bytes} {number} {t′} block block′ held e p = subst (λ l. Traced t bytes (record { number = number; table = t′; held = l })) (sym e) p
+
+-- the run ends
+pub ended-by : {t t′ out out′ : List ℕ} {bytes bytes′ number number′ next : ℕ} (block : List ℕ) (held : ℕ) → Traced t bytes (standing number t′ block held)
+    → held ≤ length block → bytes′ ≡ bytes → number′ ≡ number → Puts out 0 (traceText (shortLine held)) out′ next → next ≤ length out
+    → Ended t bytes′ number′ t′ (take next out′)
+ended-by block held p inside eb en q room = rw (eb, en) (record {
+  held = take held block;
   traced = p;
-  prints = λ e. puts-front q room ∙ ap (λ n. traceText (shortLine n)) (sym h);
-}
+  prints = puts-front q room ∙ ap (λ n. traceText (shortLine n)) (sym (length-take-le held block inside));
+})

@@ -2,12 +2,14 @@
 // for each. What is printed is decided by the crates `replay` and `text`; here bytes come and go. The lines of a part are written before
 // the next part is read, so that a slow pipe is answered as it speaks.
 ghost use mathlib.Core.Path.{_≡_};
-ghost use Prim.Native.Nat.{_+_, _*_, _≤_, _<_};
+ghost use Prim.Native.Nat.{_*_, _≤_};
 ghost use lib.ListN.{length, take};
 ghost use Rattle.rules.specs.Board.{printer, tableLength};
 ghost use Rattle.rules.specs.Requests.{requestLength};
-ghost use Rattle.text.specs.Puts.{lineRoom};
-ghost use Rattle.trace.specs.Going.{standing, GoesOn, Ended};
+ghost use Rattle.rules.specs.Trace.{shortLine};
+ghost use Rattle.text.specs.Text.{traceText};
+ghost use Rattle.text.specs.Puts.{Puts, lineRoom, shortRoom};
+ghost use Rattle.trace.specs.Going.{Ended};
 
 // A block holds 1,024 records, so that a file's reads leave nothing over; a line takes at most 48 bytes.
 const RECORDS: usize = 1024;
@@ -25,19 +27,10 @@ struct Come {
     failed: bool,
 }
 
-// Where the trace stands after a turn, the place after the turn's lines, whether anything came, and whether the read failed.
-struct Turned {
-    number: u64,
-    held: usize,
-    next: usize,
-    more: bool,
-    failed: bool,
-}
-
-// How many records the run has served, whether the input has ended, and the place after the last line.
+// What the run comes to: how many bytes have come, how many records are served, and the place after the last line.
 struct Served {
+    bytes: u64,
     number: u64,
-    ended: bool,
     next: usize,
 }
 
@@ -53,7 +46,14 @@ fn empty_lines() -> [u8; LINES]
     [0; LINES]
 }
 
-// One read of standard input, behind the bytes that are held: these stay.
+fn say_unread() {
+    io::write_all(
+        libc::STDERR_FILENO,
+        b"trace: standard input can't be read\n",
+    );
+}
+
+// One read of standard input, behind the bytes that are held: these stay. A failure is said on standard error.
 fn read_behind(block: &mut [u8], held: usize) -> Come
     requires { ⌜ held ≤ length (now block) ⌝ }
     ensures within { λ r. ⌜ (held ≤ r .n) × (r .n ≤ length (now (block .exit))) ⌝ }
@@ -61,40 +61,12 @@ fn read_behind(block: &mut [u8], held: usize) -> Come
 {
     let got = libc::read(libc::STDIN_FILENO, &mut block[held..]);
     let k = io::count(got, &block[held..]);
+    if got < 0 {
+        say_unread();
+    }
     Come {
         n: held + k,
         failed: got < 0,
-    }
-}
-
-// A part is read and served.
-fn turn(table: &mut [u8], number: u64, block: &mut [u8], held: usize, lines: &mut [u8]) -> Turned
-    requires { ⌜ length (now table) ≡ tableLength printer ⌝ }
-    requires { ⌜ number < 2305843009213693952 ⌝ }
-    requires { ⌜ length (now block) ≡ 1024 * requestLength ⌝ }
-    requires { ⌜ held < requestLength ⌝ }
-    requires { ⌜ length (now lines) ≡ 1024 * lineRoom ⌝ }
-    ensures on { λ r. ⌜ GoesOn (standing number (now (table .entry)) (now (block .entry)) held) (standing (r .number) (now (table .exit)) (now (block .exit)) (r .held)) (take (r .next) (now (lines .exit))) ⌝ }
-    ensures room { λ r. ⌜ (r .held < requestLength) × (r .number ≤ number + 1024) × (r .next ≤ 1024 * lineRoom) ⌝ }
-{
-    let come = read_behind(block, held);
-    let n = come.n;
-    if n == held {
-        return Turned {
-            number,
-            held,
-            next: 0,
-            more: false,
-            failed: come.failed,
-        };
-    }
-    let served = replay::serve(table, number, block, n, lines);
-    Turned {
-        number: served.number,
-        held: served.held,
-        next: served.next,
-        more: true,
-        failed: false,
     }
 }
 
@@ -112,58 +84,51 @@ fn written(lines: &[u8], n: usize) -> bool
     false
 }
 
-fn say_unread() {
-    io::write_all(
-        libc::STDERR_FILENO,
-        b"trace: standard input can't be read\n",
-    );
+// No more is read: the line of the bytes that are held stands ready, and is written if the input has ended.
+fn close(bytes: u64, number: u64, held: usize, ended: bool, lines: &mut [u8]) -> Served
+    requires { ⌜ length (now lines) ≡ 1024 * lineRoom ⌝ }
+    ensures counts { λ r. ⌜ (r .bytes ≡ bytes) × (r .number ≡ number) ⌝ }
+    ensures line { λ r. ⌜ Puts (now (lines .entry)) 0 (traceText (shortLine held)) (now (lines .exit)) (r .next) ⌝ }
+    ensures room { λ r. ⌜ r .next ≤ shortRoom ⌝ }
+{
+    let next = replay::finish(held, lines);
+    if ended {
+        written(lines, next);
+    }
+    Served {
+        bytes,
+        number,
+        next,
+    }
 }
 
 // The whole input is traced, part by part. A failure is said on standard error and ends the trace.
 fn run(table: &mut [u8], lines: &mut [u8]) -> Served
     requires { ⌜ length (now table) ≡ tableLength printer ⌝ }
     requires { ⌜ length (now lines) ≡ 1024 * lineRoom ⌝ }
-    ensures { λ r. ⌜ Ended (now (table .entry)) (now (table .exit)) (r .number) (r .ended) (take (r .next) (now (lines .exit))) ⌝ }
+    ensures { λ r. ⌜ Ended (now (table .entry)) (r .bytes) (r .number) (now (table .exit)) (take (r .next) (now (lines .exit))) ⌝ }
 {
     let mut block = empty_block();
+    let mut bytes: u64 = 0;
     let mut number: u64 = 0;
     let mut held: usize = 0;
     let mut reads = READS;
     while 0 < reads {
-        let t = turn(table, number, &mut block, held, lines);
-        number = t.number;
-        held = t.held;
-        if t.failed {
-            say_unread();
-            return Served {
-                number,
-                ended: false,
-                next: 0,
-            };
+        let come = read_behind(&mut block, held);
+        let n = come.n;
+        if n == held {
+            return close(bytes, number, held, !come.failed, lines);
         }
-        if !t.more {
-            let next = replay::finish(held, lines);
-            written(lines, next);
-            return Served {
-                number,
-                ended: true,
-                next,
-            };
-        }
-        if !written(lines, t.next) {
-            return Served {
-                number,
-                ended: false,
-                next: 0,
-            };
+        bytes += (n - held) as u64;
+        let served = replay::serve(table, number, &mut block, n, lines);
+        number = served.number;
+        held = served.held;
+        if !written(lines, served.next) {
+            return close(bytes, number, held, false, lines);
         }
         reads -= 1;
     }
-    Served {
-        number,
-        ended: false,
-        next: 0,
-    }
+    close(bytes, number, held, false, lines)
 }
 
 fn main() {

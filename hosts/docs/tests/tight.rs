@@ -28,6 +28,16 @@ fn function(module: &str) -> Option<String> {
     Some(format!("{name}::{}", path.replace('.', "::")))
 }
 
+/// A module's whole path: `words.put_word.Reads` is `Rattle.words.proofs.put_word.Reads` where `words` stands for `Rattle.words.proofs`.
+fn whole(modules: &BTreeMap<String, String>, head: &str) -> String {
+    let (first, rest) = head.split_once('.').unwrap_or((head, ""));
+    match modules.get(first) {
+        Some(module) if rest.is_empty() => module.clone(),
+        Some(module) => format!("{module}.{rest}"),
+        None => head.to_string(),
+    }
+}
+
 /// The theorems of a file: the fields of its records whose types speak of some function's promise.
 fn theorems(file: &PathBuf) -> Vec<Theorem> {
     let source = text(file);
@@ -63,8 +73,10 @@ fn theorems(file: &PathBuf) -> Vec<Theorem> {
             let parts = line.split(|c: char| c.is_whitespace() || "(){},".contains(c));
             let parts = parts.filter_map(|part| part.rsplit_once('.'));
             let heads = parts.filter(|(_, item)| PROMISE.contains(item));
-            let modules = heads.map(|(head, _)| modules.get(head).map_or(head, String::as_str));
-            theorem.about.extend(modules.filter_map(function));
+            let modules = heads.map(|(head, _)| whole(&modules, head));
+            theorem
+                .about
+                .extend(modules.filter_map(|module| function(&module)));
         }
     }
     found.retain(|theorem| !theorem.about.is_empty());

@@ -29,6 +29,9 @@ part-count-end c = search needs
 count-requires : tie.Need-count-requires
 count-requires c κs = search needs
 
+say-unread-requires : tie.Need-say-unread-requires
+say-unread-requires c κs = search needs
+
 add-t6 : tie.Need-add-t6
 add-t6 c = search needs
 
@@ -37,7 +40,7 @@ same-length c = search needs
 
 returns : tie.Need-returns
 returns c =
-    let start = c .before .before .before .before .before .before .before .before in
+    let start = c .before .before .before .before .before .before .before .before .before in
     ((omega arith, omega arith), take-at _ _ _ (length-take-le _ _ (start .pre)))
 
 pub read-behind-spec : {M : Type 1} → statement M
@@ -52,6 +55,7 @@ read-behind-spec =
     part-count-start
     part-count-end
     count-requires
+    say-unread-requires
     add-t6
     same-length
     returns)

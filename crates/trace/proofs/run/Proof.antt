@@ -1,41 +1,41 @@
 -- `trace::run` meets its contract: all that has come has left the trace where it stands, from turn to turn; the reads that are left fall.
 -- Assumes nothing.
-use mathlib.Core.Path.{_≡_, refl, sym, _∙_}
+use mathlib.Core.Path.{_≡_, refl, sym, ap, subst, _∙_}
 use native.Mathlib.Omega.{arith}
-use Prim.Native.Nat.{_+_, _*_, _≤_, _<_}
-use lib.ListN.{length}
+use Prim.Native.Nat.{_+_, _-_, _*_, _≤_, _<_}
+use lib.ListN.{length, take}
 use lib.Seq.{length-take-le}
 use denote.Ref.{now}
 use borrow.Author.Needs.{needs}
 use Rattle.rules.specs.Requests.{requestLength}
 use Rattle.text.specs.Puts.{lineRoom}
 use Rattle.trace.specs.Going.{standing, Traced, Ended}
-use Rattle.trace.proofs.Turns.{none-seen, traced-on, stopped, finished}
+use Rattle.trace.proofs.Turns.{none-seen, traced-part, traced-same, ended-by}
 use Rattle.trace.proofs.run.Statement.{statement}
 use Rattle.trace.proofs.run.Tie as tie
 
 abbrev Inv-loop : tie.InvT-loop
-Inv-loop table₀ lines₀ block₀ number₀ held₀ reads₀ table lines block number held reads =
+Inv-loop table₀ lines₀ block₀ bytes₀ number₀ held₀ reads₀ table lines block bytes number held reads =
     (length table ≡ length table₀) × (length lines ≡ length lines₀) × (length block ≡ 1024 * requestLength) × (held < requestLength)
-    × (number + 1024 * reads ≤ 1152921504606846976) × Traced table₀ (standing number table block held)
+    × (number + 1024 * reads ≤ 1152921504606846976) × (bytes + 12288 * reads ≤ 13835058055282163712) × Traced table₀ bytes (standing number table block held)
 
 abbrev μ-loop : tie.MeasureT-loop
-μ-loop table₀ lines₀ block₀ number₀ held₀ reads₀ table lines block number held reads = reads
+μ-loop table₀ lines₀ block₀ bytes₀ number₀ held₀ reads₀ table lines block bytes number held reads = reads
 
 empty-block-requires : tie.Need-empty-block-requires Inv-loop μ-loop
 empty-block-requires c κs = search needs
 
 loop-holds : tie.Need-loop-holds Inv-loop μ-loop
-loop-holds c = (refl, refl, sym (c .empty-block .ensures), omega arith, omega arith, none-seen (now (c .before .before .before .args .table)) (c .empty-block .result))
+loop-holds c = (refl, refl, sym (c .empty-block .ensures), omega arith, omega arith, omega arith, none-seen (now (c .before .before .before .args .table)) (c .empty-block .result))
 
-slice-aggregate-turn : tie.Need-slice-aggregate-turn Inv-loop μ-loop
-slice-aggregate-turn c = search needs
+slice-aggregate-read-behind : tie.Need-slice-aggregate-read-behind Inv-loop μ-loop
+slice-aggregate-read-behind c = search needs
 
-turn-requires : tie.Need-turn-requires Inv-loop μ-loop
-turn-requires c κs = search needs
+read-behind-requires : tie.Need-read-behind-requires Inv-loop μ-loop
+read-behind-requires c κs = search needs
 
-say-unread-requires : tie.Need-say-unread-requires Inv-loop μ-loop
-say-unread-requires c κs = search needs
+close-requires : tie.Need-close-requires Inv-loop μ-loop
+close-requires c κs = search needs
 
 same-length : tie.Need-same-length Inv-loop μ-loop
 same-length c = search needs
@@ -45,15 +45,37 @@ same-length-2 c = search needs
 
 returns : tie.Need-returns Inv-loop μ-loop
 returns c =
-    let turn = c .before .before .before .before .before .before .before .turn in
-    let so-far = c .before .before .before .before .before .before .before .before .before .before .before .before .loop .inv .5 in
-    stopped (traced-on so-far (turn .ensures .0))
+    let closed = c .before .before .close in
+    let come = c .before .before .before .before .before .before .before .read-behind in
+    let loop = c .before .before .before .before .before .before .before .before .before .before .loop in
+    let start = c .before .before .before .before .before .before .before .before .before .before .before .before .before .before in
+    ended-by (come .last .0) (loop .held) (traced-same (loop .block) (come .last .0) (loop .held) (come .ensures .1) (loop .inv .6))
+    (omega (arith, come .ensures .0)) (closed .ensures .0 .0) (closed .ensures .0 .1) (closed .ensures .1 .0)
+    (omega (arith, closed .ensures .1 .1, loop .inv .1, start .pre .1))
 
-finish-requires : tie.Need-finish-requires Inv-loop μ-loop
-finish-requires c κs = search needs
+sub-bytes : tie.Need-sub-bytes Inv-loop μ-loop
+sub-bytes c = search needs
+
+add-bytes : tie.Need-add-bytes Inv-loop μ-loop
+add-bytes c = search needs
+
+slice-aggregate-serve : tie.Need-slice-aggregate-serve Inv-loop μ-loop
+slice-aggregate-serve c = search needs
+
+serve-requires : tie.Need-serve-requires Inv-loop μ-loop
+serve-requires c κs = search needs
 
 written-requires : tie.Need-written-requires Inv-loop μ-loop
-written-requires c κs = search needs
+written-requires c κs =
+    let served = c .before .before .before .before .before .before .serve in
+    let come = c .before .before .before .before .before .before .before .before .before .before .before .before .read-behind in
+    let loop = c .before .before .before .before .before .before .before .before .before .before .before .before .before .before .before .loop in
+    let start = c .before .before .before .before .before .before .before .before .before .before .before .before .before .before .before .before .before .before .before in
+    let size = length-take-le (come .result .n) (come .last .0) (come .ensures .0 .1) in
+    omega (arith, served .ensures .0 .room, size, come .ensures .0, come .kept .0, served .kept .1 .1 .1 .1 .0, loop .inv .1, loop .inv .2, start .pre .1)
+
+close-requires-2 : tie.Need-close-requires-2 Inv-loop μ-loop
+close-requires-2 c κs = search needs
 
 same-length-3 : tie.Need-same-length-3 Inv-loop μ-loop
 same-length-3 c = search needs
@@ -63,26 +85,17 @@ same-length-4 c = search needs
 
 returns-2 : tie.Need-returns-2 Inv-loop μ-loop
 returns-2 c =
-    let turn = c .before .before .before .before .before .before .before .before .before .before .before .before .before .before .turn in
-    let so-far = c .before .before .before .before .before .before .before .before .before .before .before .before .before .before .before .before .before .before .before .loop .inv .5 in
-    let end = c .before .before .before .before .finish in
-    let lines : length (turn .last .1 .1 .1 .1 .0) ≡ 1024 * lineRoom = turn .kept .1 .1 .1 .1 .0 ∙ c .before .before .before .before .before .before .before .before .before .before .before .before .before .before .before .before .before .before .before .loop .inv .1 ∙ c .before .before .before .before .before .before .before .before .before .before .before .before .before .before .before .before .before .before .before .before .before .before .before .pre .1 in
-    finished (traced-on so-far (turn .ensures .0)) (length-take-le (turn .result .held) (turn .last .1 .1 .0) (omega (arith, turn .ensures .1 .0, turn .kept .1 .1 .0, c .before .before .before .before .before .before .before .before .before .before .before .before .before .before .before .before .before .before .before .loop .inv .2))) (end .ensures .0) (omega (arith, end .ensures .1, lines))
-
-written-requires-2 : tie.Need-written-requires-2 Inv-loop μ-loop
-written-requires-2 c κs = search needs
-
-same-length-5 : tie.Need-same-length-5 Inv-loop μ-loop
-same-length-5 c = search needs
-
-same-length-6 : tie.Need-same-length-6 Inv-loop μ-loop
-same-length-6 c = search needs
-
-returns-3 : tie.Need-returns-3 Inv-loop μ-loop
-returns-3 c =
-    let turn = c .before .before .before .before .before .before .before .before .before .before .before .turn in
-    let so-far = c .before .before .before .before .before .before .before .before .before .before .before .before .before .before .before .before .loop .inv .5 in
-    stopped (traced-on so-far (turn .ensures .0))
+    let closed = c .before .before .close2 in
+    let served = c .before .before .before .before .before .before .before .before .before .before .before .before .serve in
+    let come = c .before .before .before .before .before .before .before .before .before .before .before .before .before .before .before .before .before .before .read-behind in
+    let loop = c .before .before .before .before .before .before .before .before .before .before .before .before .before .before .before .before .before .before .before .before .before .loop in
+    let start = c .before .before .before .before .before .before .before .before .before .before .before .before .before .before .before .before .before .before .before .before .before .before .before .before .before in
+    let traced =
+    traced-part (loop .block) (come .last .0) (loop .held) (come .result .n) (come .ensures .1) (come .ensures .0 .0) (come .ensures .0 .1) _ _ _ _ _ _ _ _ _ (loop .inv .6)
+    (served .ensures .0) (served .ensures .1 .0) (served .ensures .1 .1 .0) (served .ensures .1 .1 .1) in
+    ended-by (served .last .1 .1 .0) (served .result .held) traced (omega (arith, served .ensures .1 .1 .0, served .kept .1 .1 .0, come .kept .0, loop .inv .2))
+    (closed .ensures .0 .0) (closed .ensures .0 .1) (closed .ensures .1 .0)
+    (omega (arith, closed .ensures .1 .1, served .kept .1 .1 .1 .1 .0, loop .inv .1, start .pre .1))
 
 sub-reads : tie.Need-sub-reads Inv-loop μ-loop
 sub-reads c = search needs
@@ -92,18 +105,34 @@ loop-less c = search needs
 
 loop-again : tie.Need-loop-again Inv-loop μ-loop
 loop-again c =
-    let turn = c .before .before .before .before .before .before .before .before .before .before .before .turn in
-    let so-far = c .before .before .before .before .before .before .before .before .before .before .before .before .before .before .before .before .loop .inv .5 in
-    (search needs, search needs, search needs, search needs, search needs, traced-on so-far (turn .ensures .0))
+    let served = c .before .before .before .before .before .before .before .before .serve in
+    let come = c .before .before .before .before .before .before .before .before .before .before .before .before .before .before .read-behind in
+    let loop = c .before .before .before .before .before .before .before .before .before .before .before .before .before .before .before .before .before .loop in
+    let start = c .before .before .before .before .before .before .before .before .before .before .before .before .before .before .before .before .before .before .before .before .before in
+    let traced =
+    traced-part (loop .block) (come .last .0) (loop .held) (come .result .n) (come .ensures .1) (come .ensures .0 .0) (come .ensures .0 .1) _ _ _ _ _ _ _ _ _ (loop .inv .6)
+    (served .ensures .0) (served .ensures .1 .0) (served .ensures .1 .1 .0) (served .ensures .1 .1 .1) in
+    let some = c .before .before .before .before .before .before .before .before .before .before .before .before .before .before .before .before .loop-test .taken in
+    let number : served .result .number + 1024 * (loop .reads - 1) ≤ 1152921504606846976 = omega (arith, served .ensures .1 .0, come .ensures .0, come .kept .0, loop .inv .2, loop .inv .4, some) in
+    (served .kept .0 ∙ loop .inv .0, served .kept .1 .1 .1 .1 .0 ∙ loop .inv .1, served .kept .1 .1 .0 ∙ come .kept .0 ∙ loop .inv .2,
+    omega (arith, served .ensures .1 .1 .0), number, omega (arith, come .ensures .0, come .kept .0, loop .inv .2, loop .inv .5, some), traced)
 
-same-length-7 : tie.Need-same-length-7 Inv-loop μ-loop
-same-length-7 c = search needs
+close-requires-3 : tie.Need-close-requires-3 Inv-loop μ-loop
+close-requires-3 c κs = search needs
 
-same-length-8 : tie.Need-same-length-8 Inv-loop μ-loop
-same-length-8 c = search needs
+same-length-5 : tie.Need-same-length-5 Inv-loop μ-loop
+same-length-5 c = search needs
 
-returns-4 : tie.Need-returns-4 Inv-loop μ-loop
-returns-4 c = stopped (c .before .loop .inv .5)
+same-length-6 : tie.Need-same-length-6 Inv-loop μ-loop
+same-length-6 c = search needs
+
+returns-3 : tie.Need-returns-3 Inv-loop μ-loop
+returns-3 c =
+    let closed = c .before .before .close3 in
+    let loop = c .before .before .before .before .before .loop in
+    let start = c .before .before .before .before .before .before .before .before .before in
+    ended-by (loop .block) (loop .held) (loop .inv .6) (omega (arith, loop .inv .2, loop .inv .3)) (closed .ensures .0 .0) (closed .ensures .0 .1) (closed .ensures .1 .0)
+    (omega (arith, closed .ensures .1 .1, loop .inv .1, start .pre .1))
 
 pub run-spec : {M : Type 1} → statement M
 run-spec =
@@ -113,24 +142,25 @@ run-spec =
     μ-loop
     empty-block-requires
     loop-holds
-    slice-aggregate-turn
-    turn-requires
-    say-unread-requires
+    slice-aggregate-read-behind
+    read-behind-requires
+    close-requires
     same-length
     same-length-2
     returns
-    finish-requires
+    sub-bytes
+    add-bytes
+    slice-aggregate-serve
+    serve-requires
     written-requires
+    close-requires-2
     same-length-3
     same-length-4
     returns-2
-    written-requires-2
-    same-length-5
-    same-length-6
-    returns-3
     sub-reads
     loop-less
     loop-again
-    same-length-7
-    same-length-8
-    returns-4)
+    close-requires-3
+    same-length-5
+    same-length-6
+    returns-3)

@@ -1,0 +1,126 @@
+-- Each public function's own promise is tight: it is a family of equations with what the table says, and a table says one state; every number
+-- is that of one line; a text that is put somewhere is put there. Assumes nothing.
+use mathlib.Core.Path.{_≡_, refl, sym, _∙_}
+use Rattle.layout.proofs.Held.{becomes-one}
+use Rattle.lines.proofs.Numbered.{numbered}
+use Rattle.waiting.proofs.Doing.{does-one}
+use Rattle.text.proofs.Putting.{puts-tight}
+use Rattle.tight.specs.Each.{Each}
+
+-- what was lent first is the same, and nothing else was
+first : {A B : Type 0} {x x′ : A} {y : B} → x ≡ x′ → _≡_ {A = A × B} (x, y) (x′, y)
+first {y} e = λ j. (e j, y)
+
+pub each : Each
+each = record {
+  -- words
+  words-put-word = λ κs a z z′ ws ws′ h p q. (refl, first (p ∙ sym q));
+  words-word-at = λ κs a z z′ ws ws′ h p q. (p ∙ sym q, refl);
+  -- records
+  records-counter-of = λ κs a z z′ ws ws′ h p q. (p ∙ sym q, refl);
+  records-free-thread = λ κs a z z′ ws ws′ h p q. (refl, first (becomes-one (h .1) p q));
+  records-is-delaying = λ κs a z z′ ws ws′ h p q. (p ∙ sym q, refl);
+  records-is-pending = λ κs a z z′ ws ws′ h p q. (p ∙ sym q, refl);
+  records-is-receiving = λ κs a z z′ ws ws′ h p q. (p ∙ sym q, refl);
+  records-is-sending = λ κs a z z′ ws ws′ h p q. (p ∙ sym q, refl);
+  records-is-waiting = λ κs a z z′ ws ws′ h p q. (p ∙ sym q, refl);
+  records-load-sem = λ κs a z z′ ws ws′ h p q. (p _ refl ∙ sym (q _ refl), refl);
+  records-load-thread = λ κs a z z′ ws ws′ h p q. (p _ refl ∙ sym (q _ refl), refl);
+  records-lock = λ κs a z z′ ws ws′ h p q. (p _ refl ∙ sym (q _ refl), refl);
+  records-running = λ κs a z z′ ws ws′ h p q. (p _ refl ∙ sym (q _ refl), refl);
+  records-set-counter = λ κs a z z′ ws ws′ h p q. (refl, first (becomes-one (h .1) p q));
+  records-set-lock = λ κs a z z′ ws ws′ h p q. (refl, first (becomes-one h p q));
+  records-set-mail = λ κs a z z′ ws ws′ h p q. (refl, first (becomes-one (h .1) p q));
+  records-set-outcome = λ κs a z z′ ws ws′ h p q. (refl, first (becomes-one (h .1) p q));
+  records-set-place = λ κs a z z′ ws ws′ h p q. (refl, first (becomes-one (h .1) p q));
+  records-set-running = λ κs a z z′ ws ws′ h p q. (refl, first (becomes-one (h .1) p q));
+  records-set-sem = λ κs a z z′ ws ws′ h p q. (refl, first (becomes-one (h .1) p q));
+  records-set-settings = λ κs a z z′ ws ws′ h p q. (refl, first (becomes-one (h .1) p q));
+  records-set-suspended = λ κs a z z′ ws ws′ h p q. (refl, first (becomes-one (h .1) p q));
+  records-set-wait = λ κs a z z′ ws ws′ h p q. (refl, first (becomes-one (h .1) p q));
+  records-store-thread = λ κs a z z′ ws ws′ h p q. (refl, first (becomes-one (h .1) p q));
+  records-thread-at = λ κs a z z′ ws ws′ h p q. (p _ refl ∙ sym (q _ refl), refl);
+  -- lines
+  lines-fill = λ κs a z z′ ws ws′ h p q. (refl, first (becomes-one (h .1) p q));
+  lines-first-of = λ κs a z z′ ws ws′ h p q. let l = numbered (a .1 .0) in (p .1 _ (l .0) refl (l .1) ∙ sym (q .1 _ (l .0) refl (l .1)), refl);
+  lines-is-ready = λ κs a z z′ ws ws′ h p q. (p ∙ sym q, refl);
+  lines-join = λ κs a z z′ ws ws′ h p q. (p .0 _ refl ∙ sym (q .0 _ refl), first (becomes-one (h .1) (p .1) (q .1)));
+  lines-leave = λ κs a z z′ ws ws′ h p q. (refl, first (becomes-one (h .1) p q));
+  lines-line-length = λ κs a z z′ ws ws′ h p q. let l = numbered (a .1 .0) in (p _ (l .0) refl (l .1) ∙ sym (q _ (l .0) refl (l .1)), refl);
+  lines-line-of = λ κs a z z′ ws ws′ h p q. (p ∙ sym q, refl);
+  lines-ready-line = λ κs a z z′ ws ws′ h p q. (p ∙ sym q, refl);
+  lines-senders-line = λ κs a z z′ ws ws′ h p q. (p ∙ sym q, refl);
+  lines-settle = λ κs a z z′ ws ws′ h p q. (refl, first (becomes-one h p q));
+  lines-to-tail = λ κs a z z′ ws ws′ h p q. (refl, first (becomes-one (h .1) p q));
+  lines-top-thread = λ κs a z z′ ws ws′ h p q. (p .1 _ refl ∙ sym (q .1 _ refl), refl);
+  lines-waiters-line = λ κs a z z′ ws ws′ h p q. (p ∙ sym q, refl);
+  -- canon
+  canon-kernel-canon = λ κs a z z′ ws ws′ h p q. (p ∙ sym q, refl);
+  canon-sem-canon = λ κs a z z′ ws ws′ h p q. (p ∙ sym q, refl);
+  canon-thread-canon = λ κs a z z′ ws ws′ h p q. (p ∙ sym q, refl);
+  canon-thread-zero = λ κs a z z′ ws ws′ h p q. (p ∙ sym q, refl);
+  -- places
+  places-no-gaps = λ κs a z z′ ws ws′ h p q. (p ∙ sym q, refl);
+  places-take = λ κs a z z′ ws ws′ h p q. (p .0 ∙ sym (q .0), first (p .1 ∙ sym (q .1)));
+  -- sound
+  sound-sound = λ κs a z z′ ws ws′ h p q. (p ∙ sym q, refl);
+  -- waiting
+  waiting-accept = λ κs a z z′ ws ws′ h p q. let d = does-one h p q in (d .1, first (d .0));
+  waiting-block = λ κs a z z′ ws ws′ h p q. let d = does-one (h .whole) p q in (d .1, first (d .0));
+  waiting-break-off = λ κs a z z′ ws ws′ h p q. let d = does-one (h .whole) p q in (d .1, first (d .0));
+  waiting-end-wait = λ κs a z z′ ws ws′ h p q. (refl, first (becomes-one (h .1) p q));
+  waiting-may-not-wait = λ κs a z z′ ws ws′ h p q. (p _ refl ∙ sym (q _ refl), refl);
+  waiting-must-wait = λ κs a z z′ ws ws′ h p q. let d = does-one (h .whole) (p (λ n. a .1 .1 .0) refl) (q (λ n. a .1 .1 .0) refl) in (d .1, first (d .0));
+  waiting-no-thread = λ κs a z z′ ws ws′ h p q. (p _ refl ∙ sym (q _ refl), refl);
+  waiting-serve = λ κs a z z′ ws ws′ h p q. let l = numbered (a .1 .1 .0) in (refl, first (becomes-one h (p (l .0) (l .1)) (q (l .0) (l .1))));
+  waiting-wait-counter = λ κs a z z′ ws ws′ h p q. (p ∙ sym q, refl);
+  -- threads
+  threads-cancel = λ κs a z z′ ws ws′ h p q. let d = does-one (h .whole) p q in (d .1, first (d .0));
+  threads-create = λ κs a z z′ ws ws′ h p q. let d = does-one (h .whole) p q in (d .1, first (d .0));
+  threads-delay = λ κs a z z′ ws ws′ h p q. let d = does-one (h .whole) p q in (d .1, first (d .0));
+  threads-delete = λ κs a z z′ ws ws′ h p q. let d = does-one (h .whole) p q in (d .1, first (d .0));
+  threads-resume = λ κs a z z′ ws ws′ h p q. let d = does-one (h .whole) p q in (d .1, first (d .0));
+  threads-set = λ κs a z z′ ws ws′ h p q. let d = does-one (h .whole) p q in (d .1, first (d .0));
+  threads-suspend = λ κs a z z′ ws ws′ h p q. let d = does-one (h .whole) p q in (d .1, first (d .0));
+  threads-yield-turn = λ κs a z z′ ws ws′ h p q. let d = does-one (h .whole) p q in (d .1, first (d .0));
+  -- mail
+  mail-receive = λ κs a z z′ ws ws′ h p q. let d = does-one (h .whole) p q in (d .1, first (d .0));
+  mail-send = λ κs a z z′ ws ws′ h p q. let d = does-one (h .whole) p q in (d .1, first (d .0));
+  mail-send-from-interrupt = λ κs a z z′ ws ws′ h p q. let d = does-one (h .whole) p q in (d .1, first (d .0));
+  -- semaphores
+  semaphores-abort = λ κs a z z′ ws ws′ h p q. let d = does-one (h .whole) p q in (d .1, first (d .0));
+  semaphores-drop-semaphore = λ κs a z z′ ws ws′ h p q. let d = does-one (h .whole) p q in (d .1, first (d .0));
+  semaphores-make = λ κs a z z′ ws ws′ h p q. let d = does-one (h .whole) p q in (d .1, first (d .0));
+  semaphores-pend = λ κs a z z′ ws ws′ h p q. let d = does-one (h .whole) p q in (d .1, first (d .0));
+  semaphores-post = λ κs a z z′ ws ws′ h p q. let d = does-one (h .whole) p q in (d .1, first (d .0));
+  semaphores-post-from-interrupt = λ κs a z z′ ws ws′ h p q. let d = does-one (h .whole) p q in (d .1, first (d .0));
+  -- time
+  time-lock = λ κs a z z′ ws ws′ h p q. let d = does-one (h .whole) p q in (d .1, first (d .0));
+  time-outcome = λ κs a z z′ ws ws′ h p q. (does-one (h .whole) p q .1, refl);
+  time-tick = λ κs a z z′ ws ws′ h p q. let d = does-one (h .whole) p q in (d .1, first (d .0));
+  time-unlock = λ κs a z z′ ws ws′ h p q. let d = does-one (h .whole) p q in (d .1, first (d .0));
+  -- request
+  request-decode = λ κs a z z′ ws ws′ h p q. (p ∙ sym q, refl);
+  -- answer
+  answer-code = λ κs a z z′ ws ws′ h p q. (p ∙ sym q, refl);
+  answer-put-answer = λ κs a z z′ ws ws′ h p q. (refl, first (p ∙ sym q));
+  answer-value = λ κs a z z′ ws ws′ h p q. (p ∙ sym q, refl);
+  -- kernel
+  kernel-speltmallet-door = λ κs a z z′ ws ws′ h p q. (p .0 ∙ sym (q .0), λ j. ((p .1 .0 ∙ sym (q .1 .0)) j, (ws .1 .0, ((p .1 .1 ∙ sym (q .1 .1)) j, ws .1 .1 .1))));
+  -- reader
+  reader-read-from = λ κs a z z′ ws ws′ h p q. (p ∙ sym q, refl);
+  -- text
+  text-put-byte = λ κs a z z′ ws ws′ h p q. let d = puts-tight p q in (d .1, first (d .0));
+  text-put-field = λ κs a z z′ ws ws′ h p q. let d = puts-tight (p .0) (q .0) in (d .1, first (d .0));
+  text-put-line = λ κs a z z′ ws ws′ h p q. let d = puts-tight (p .0) (q .0) in (d .1, first (d .0));
+  text-put-number = λ κs a z z′ ws ws′ h p q. let d = puts-tight p q in (d .1, first (d .0));
+  text-put-short = λ κs a z z′ ws ws′ h p q. let d = puts-tight (p .0) (q .0) in (d .1, first (d .0));
+  text-put-signed = λ κs a z z′ ws ws′ h p q. let d = puts-tight p q in (d .1, first (d .0));
+  -- replay
+  replay-finish = λ κs a z z′ ws ws′ h p q. let d = puts-tight (p .0) (q .0) in (d .1, λ j. (ws .0, (d .0 j, ws .1 .1)));
+  replay-fresh = λ κs a z z′ ws ws′ h p q. (p ∙ sym q, refl);
+  replay-serve = λ κs a z z′ ws ws′ h p q. let d = puts-tight (p .0 .lines) (q .0 .lines) in (
+    λ j. record { number = (p .1 .0 ∙ sym (q .1 .0)) j; held = (p .1 .1 .0 ∙ sym (q .1 .1 .0)) j; next = d .1 j },
+    λ j. ((p .0 .table ∙ sym (q .0 .table)) j, (ws .1 .0, ((p .1 .1 .1 ∙ sym (q .1 .1 .1)) j, (ws .1 .1 .1 .0, (d .0 j, ws .1 .1 .1 .1 .1))))),
+  );
+}
