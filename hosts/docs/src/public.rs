@@ -12,14 +12,19 @@ use crate::{text, top};
 struct Module {
     functions: Vec<String>,
     public_modules: Vec<String>,
-    /// What a `pub use` passes on, each as the words of its path.
-    passed_on: Vec<Vec<String>>,
+    passed_on: Vec<PassedOn>,
+}
+
+/// What a `pub use` passes on: the words of its path, and the name by which others call it.
+struct PassedOn {
+    words: Vec<String>,
+    name: String,
 }
 
 /// Gives the text of a file in src/ by its path there.
 type Source<'a> = &'a dyn Fn(&str) -> Option<String>;
 
-/// The public functions of a library, each by its path in the crate, as `put_word` or `refusals::bad_ticks`. A program has none.
+/// The public functions of a library, each by the path by which another crate calls it, as `put_word`. A program has none.
 pub fn functions(name: &str) -> BTreeSet<String> {
     let folder = Path::new("crates").join(name).join("src");
     found_in(&|file| {
@@ -30,7 +35,7 @@ pub fn functions(name: &str) -> BTreeSet<String> {
 
 fn found_in(source: Source) -> BTreeSet<String> {
     let mut found = BTreeSet::new();
-    collect(&[], source, &mut found);
+    collect(&[], &[], source, &mut found);
     found
 }
 
@@ -79,45 +84,69 @@ fn parsed(text: &str, file: &str) -> Module {
 }
 
 /// The paths of a `pub use`: one, or several between braces.
-fn expanded(paths: &str) -> Vec<Vec<String>> {
-    let words = |path: &str| -> Vec<String> {
-        let path = path.split(" as ").next().unwrap_or_default();
-        path.split("::")
+fn expanded(paths: &str) -> Vec<PassedOn> {
+    let passed_on = |path: &str| -> PassedOn {
+        let (path, name) = match path.split_once(" as ") {
+            Some((path, name)) => (path, Some(name.trim().to_string())),
+            None => (path, None),
+        };
+        let words: Vec<String> = path
+            .split("::")
             .map(|word| word.trim().to_string())
-            .collect()
+            .collect();
+        let last = words.last().cloned().unwrap_or_default();
+        PassedOn {
+            words,
+            name: name.unwrap_or(last),
+        }
     };
     let Some((head, rest)) = paths.split_once('{') else {
-        return vec![words(paths)];
+        return vec![passed_on(paths)];
     };
     let inner = rest.trim_end().trim_end_matches('}').split(',');
     let inner = inner.filter(|path| !path.trim().is_empty());
-    inner.map(|path| words(&format!("{head}{path}"))).collect()
+    inner
+        .map(|path| passed_on(&format!("{head}{path}")))
+        .collect()
 }
 
-/// All that can be called by way of a module.
-fn collect(path: &[String], source: Source, found: &mut BTreeSet<String>) {
+/// All that can be called by way of a module, which others reach by the path `public`.
+fn collect(path: &[String], public: &[String], source: Source, found: &mut BTreeSet<String>) {
     let Some(module) = module(path, source) else {
         return;
     };
     for name in &module.functions {
-        found.insert([path, from_ref(name)].concat().join("::"));
+        found.insert([public, from_ref(name)].concat().join("::"));
     }
     for name in &module.public_modules {
-        collect(&[path, from_ref(name)].concat(), source, found);
+        let name = from_ref(name);
+        collect(
+            &[path, name].concat(),
+            &[public, name].concat(),
+            source,
+            found,
+        );
     }
-    for words in &module.passed_on {
-        pass_on(path, words, source, found);
+    for passed_on in &module.passed_on {
+        pass_on(path, public, passed_on, source, found);
     }
 }
 
 /// What one path of a `pub use` in a module lets others call: a function, or all of a module. A type is nothing here, and what is
 /// another crate's counts there.
-fn pass_on(path: &[String], words: &[String], source: Source, found: &mut BTreeSet<String>) {
+fn pass_on(
+    path: &[String],
+    public: &[String],
+    passed_on: &PassedOn,
+    source: Source,
+    found: &mut BTreeSet<String>,
+) {
+    let words = &passed_on.words;
     let (start, words) = match words[0].as_str() {
         "crate" => (&[][..], &words[1..]),
         "self" => (path, &words[1..]),
         "super" => (&path[..path.len().saturating_sub(1)], &words[1..]),
-        _ => (path, words),
+        _ => (path, &words[..]),
     };
     let Some((last, between)) = words.split_last() else {
         return;
@@ -127,15 +156,18 @@ fn pass_on(path: &[String], words: &[String], source: Source, found: &mut BTreeS
         return;
     };
     let whole = [&home[..], from_ref(last)].concat();
-    let is_same = |words: &&Vec<String>| home != path && words.last() == Some(last);
+    let named = [public, from_ref(&passed_on.name)].concat();
+    let further = owner.passed_on.iter().find(|further| &further.name == last);
     if last == "*" {
-        collect(&home, source, found);
+        collect(&home, public, source, found);
     } else if owner.functions.contains(last) {
-        found.insert(whole.join("::"));
-    } else if let Some(further) = owner.passed_on.iter().find(is_same) {
-        pass_on(&home, further, source, found);
+        found.insert(named.join("::"));
+    } else if let Some(further) = further.filter(|_| home != path) {
+        let words = further.words.clone();
+        let name = passed_on.name.clone();
+        pass_on(&home, public, &PassedOn { words, name }, source, found);
     } else {
-        collect(&whole, source, found);
+        collect(&whole, &named, source, found);
     }
 }
 
@@ -173,26 +205,20 @@ mod tests {
         let private = ("n.rt", "pub fn a()\npub fn b()\npub fn c()\npub fn d()\n");
         let root =
             "mod n;\npub use n::a;\npub use crate::n::{b as e,\n    c};\npub use records::load;\n";
-        assert_eq!(
-            found(&[("lib.rt", root), private]),
-            ["n::a", "n::b", "n::c"]
-        );
+        assert_eq!(found(&[("lib.rt", root), private]), ["a", "c", "e"]);
         let root = "mod n;\npub use self::n::*;\n";
-        assert_eq!(
-            found(&[("lib.rt", root), private]),
-            ["n::a", "n::b", "n::c", "n::d"]
-        );
+        assert_eq!(found(&[("lib.rt", root), private]), ["a", "b", "c", "d"]);
         let root = "mod n;\npub use n;\n";
         assert_eq!(found(&[("lib.rt", root), private]).len(), 4);
     }
 
     #[test]
-    fn what_is_passed_on_twice_counts_where_it_stands() {
+    fn what_is_passed_on_twice_counts_once() {
         let files = [
             ("lib.rt", "mod m;\npub use m::a;\npub use m::T;\n"),
             ("m.rt", "mod n;\npub use n::a;\npub struct T {\n}\n"),
             ("m/n.rt", "pub fn a()\npub fn b()\n"),
         ];
-        assert_eq!(found(&files), ["m::n::a"]);
+        assert_eq!(found(&files), ["a"]);
     }
 }
