@@ -10,16 +10,9 @@ use lib.ListN.{getD, take, drop}
 use Rattle.rules.specs.Basic.{count}
 use Rattle.rules.specs.Board.{Board, printer}
 use Rattle.rules.specs.State.{at}
-use Rattle.rules.specs.Lines.{ready, inLine, leave, join, move, topBelow, top, settle}
-use Rattle.rules.specs.Table.{waitOf, outcomeOf, threadRow, threadOf, semRow, semOf, kernelRow, flat, encode, rows, decode}
-use Rattle.rules.specs.Test.{placeOk, freeOk, usedOk, threadOk, semOk, initOk, kernelOk, sound, soundTable}
-use Rattle.rules.specs.Answers.{refusalCode, areaOf}
-use Rattle.rules.specs.Requests.{requestOf, decodeRequest}
-use Rattle.rules.specs.Waiting.{endWait}
-use Rattle.rules.specs.Threads.{doCreate}
-use Rattle.rules.specs.Semaphores.{doMake, doPend}
-use Rattle.rules.specs.Time.{doUnlock, charge, charged, countDown, timeouts, doTick}
-use Rattle.rules.specs.Steps.{step}
+use Rattle.rules.specs.Lines.{ready, inLine}
+use Rattle.rules.specs.Table.{decode}
+use Rattle.rules.specs.Answers.{refusalCode}
 use Rattle.rules.specs.Trace.{cleanArea}
 use Rattle.rules.specs.Door.{Doored, serveDecoded, door, fresh, freshTable, Handed, tableAfter}
 use Rattle.rules.specs.declared.Refusal.{Refusal}

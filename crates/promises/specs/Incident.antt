@@ -1,7 +1,7 @@
--- The incident, or why only the odd seats: two lanes of one rank, with equal turns, print the seats by turns, and a cutter of a higher
--- rank breaks into the turn of one of them again and again. "A thread outranked by another keeps its place and counter." Here it goes to
--- its line's tail instead, and what is left of its turn is gone: the lane that is broken into falls behind, or gets no tick at all, and
--- its lines come late: only its seats fail at the gate. Such a rule does not meet demand 3.
+-- The incident, or why only the odd seats: of two lanes of one rank, with equal turns, the left prints the odd seats and the right the even
+-- ones, and a cutter of a higher rank breaks into the left lane's turn again and again. "A thread outranked by another keeps its place and
+-- counter." Here it goes to its line's tail instead, and what is left of its turn is gone: the left lane falls behind, or gets no tick at
+-- all, and its lines come late: only the odd seats fail at the gate. Such a rule does not meet demand 3.
 use mathlib.Core.Bool.{Bool, true, _&&_}
 use mathlib.Core.Path.{_≡_}
 use mathlib.Core.List.{List, [], _∷_, _++_}

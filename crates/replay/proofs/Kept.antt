@@ -1,10 +1,10 @@
 -- Bytes that move to the front one by one: the next one still stands where it stood, since only places before it were written. Assumes nothing.
 use mathlib.Core.Path.{_≡_, refl, sym, ap, _∙_}
-use mathlib.Core.List.{List, [], _∷_, _++_}
+use mathlib.Core.List.{List, [], _∷_}
 use Prim.Native.Nat.{ℕ, suc, _+_, _-_, _≤_, _<_}
 use native.Mathlib.Omega.{arith}
 use native.Mathlib.Numerals.{add-one}
-use lib.ListN.{length, getD, set, take, drop, length-take, length-drop}
+use lib.ListN.{length, getD, set, take, drop, length-drop}
 use lib.Seq.{sets, getD-set-other, getD-take, getD-drop, take-suc, take-all, length-take-le}
 use Rattle.text.proofs.Putting.{sets-append}
 

@@ -1,12 +1,12 @@
 -- The line of a record, from what the door answered. Assumes nothing.
-use mathlib.Core.Path.{_≡_, refl, ap, sym, _∙_}
+use mathlib.Core.Path.{_≡_}
 use mathlib.Core.List.{List}
 use Prim.Native.Nat.{ℕ}
 use lib.IntN.{ℤ}
 use Rattle.rules.specs.Board.{Board}
 use Rattle.rules.specs.Table.{wordAt, decode}
 use Rattle.rules.specs.Door.{Doored}
-use Rattle.rules.specs.Trace.{TraceLine, served, traceLine}
+use Rattle.rules.specs.Trace.{served, traceLine}
 use Rattle.text.specs.Text.{lineText}
 use Rattle.text.specs.Puts.{Puts}
 

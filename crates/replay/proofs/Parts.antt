@@ -7,15 +7,14 @@ use native.Mathlib.Omega.{arith}
 use native.Mathlib.Nat.{zero-add, suc-add}
 use lib.ListN.{length, take, drop, length-append, length-drop}
 use lib.Seq.{drop-drop, take-append-le, drop-append-le}
-use Rattle.rules.specs.Basic.{pieces}
 use Rattle.rules.specs.Board.{Board}
 use Rattle.rules.specs.Requests.{requestLength}
-use Rattle.rules.specs.Door.{Doored, door, freshTable, tableAfter}
-use Rattle.rules.specs.Trace.{TraceLine, records, cleanArea, cleanly, traceLine, traceFrom, shortLine, wholeRecords, traceOn, trace}
+use Rattle.rules.specs.Door.{door, freshTable, tableAfter}
+use Rattle.rules.specs.Trace.{records, cleanArea, cleanly, traceLine, traceFrom, shortLine, wholeRecords, traceOn, trace}
 use Rattle.text.specs.Text.{traceText}
 use Rattle.text.proofs.Putting.{trace-append}
 use Rattle.replay.specs.Replay.{leftOver}
-use Rattle.replay.specs.Parts.{Stand, begins, lines, after, last, printed, InParts, AsOne}
+use Rattle.replay.specs.Parts.{Stand, begins, lines, after, printed, InParts, AsOne}
 
 -- RECORDS
 

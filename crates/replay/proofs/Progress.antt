@@ -9,8 +9,8 @@ use lib.ListN.{length, take, drop}
 use lib.Seq.{drop-drop}
 use Rattle.rules.specs.Board.{printer}
 use Rattle.rules.specs.Requests.{requestLength}
-use Rattle.rules.specs.Door.{Doored, door, tableAfter}
-use Rattle.rules.specs.Trace.{TraceLine, records, cleanArea, cleanly, traceLine, traceFrom, wholeRecords}
+use Rattle.rules.specs.Door.{door, tableAfter}
+use Rattle.rules.specs.Trace.{records, cleanArea, cleanly, traceLine, traceFrom, wholeRecords}
 use Rattle.text.specs.Text.{lineText, traceText}
 use Rattle.text.specs.Puts.{Puts, lineRoom}
 use Rattle.text.proofs.Putting.{_followed-by_}

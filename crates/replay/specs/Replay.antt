@@ -1,9 +1,8 @@
 -- What a replay of whole records makes of a table, and what it prints: the rules' trace, as text.
 use mathlib.Core.Path.{_≡_}
 use mathlib.Core.List.{List, map}
-use Prim.Native.Nat.{ℕ, _+_, _*_, _/_, _%_, _≤_}
-use lib.ListN.{length, take, drop}
-use lib.Seq.{sets}
+use Prim.Native.Nat.{ℕ, _*_, _/_, _≤_}
+use lib.ListN.{length, drop}
 use Rattle.rules.specs.Board.{printer}
 use Rattle.rules.specs.Requests.{requestLength}
 use Rattle.rules.specs.Door.{tableAfter}

@@ -1,5 +1,4 @@
 -- The trace: what the trace program prints of its input, line by line.
-use mathlib.Core.Bool.{Bool, true, false}
 use mathlib.Core.List.{List, [], _∷_, _++_}
 use Prim.Native.Nat.{ℕ, suc, _/_, _%_}
 use lib.Dec.{eqb}
@@ -7,7 +6,6 @@ use lib.IntN.{ℤ}
 use lib.ListN.{length, replicate}
 use Rattle.rules.specs.Basic.{if_then_else_, pieces}
 use Rattle.rules.specs.Board.{Board}
-use Rattle.rules.specs.State.{State}
 use Rattle.rules.specs.Table.{wordAt, decode}
 use Rattle.rules.specs.Answers.{areaLength}
 use Rattle.rules.specs.Requests.{requestLength}

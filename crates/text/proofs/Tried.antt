@@ -2,18 +2,6 @@
 use mathlib.Core.Path.{_≡_, refl}
 use lib.IntN.{negsuc}
 use lib.ListN.{length}
-use Rattle.rules.specs.Lines.{leave, join, move, topBelow, top, settle}
-use Rattle.rules.specs.Table.{waitOf, outcomeOf, threadRow, threadOf, semRow, semOf, kernelRow, flat, encode, rows, decode}
-use Rattle.rules.specs.Test.{placeOk, freeOk, usedOk, threadOk, semOk, initOk, kernelOk, sound, soundTable}
-use Rattle.rules.specs.Answers.{areaOf}
-use Rattle.rules.specs.Requests.{requestOf, decodeRequest}
-use Rattle.rules.specs.Waiting.{endWait, serve, block, mustWait}
-use Rattle.rules.specs.Threads.{doYield, doCreate, deleted, doDelete, doSet, doSuspend, doResume, doDelay, breakOff, doCancel}
-use Rattle.rules.specs.Mail.{delivered, doSend, doSendFromInterrupt, emptied, doReceive}
-use Rattle.rules.specs.Semaphores.{doMake, doDrop, doPend, doAbort, posted, doPost, doPostFromInterrupt}
-use Rattle.rules.specs.Time.{doLock, doUnlock, charge, charged, countDown, timeouts, doTick, doOutcome}
-use Rattle.rules.specs.Steps.{step}
-use Rattle.rules.specs.Door.{serveDecoded, door, fresh, freshTable}
 use Rattle.rules.proofs.Computing.{behindTheDoor}
 use Rattle.rules.specs.Trace.{served, short, records, traceFrom, trace}
 use Rattle.text.specs.Text.{ascii, digits, decimal, signed, lineText}

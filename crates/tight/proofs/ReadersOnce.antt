@@ -5,7 +5,7 @@ use Rattle.reader.specs.Reading.{readAt}
 use Rattle.reader.proofs.new as new
 use Rattle.reader.proofs.moved as moved
 use Rattle.reader.proofs.next as next
-use Rattle.tight.specs.Readers.{TightClauses, Readers}
+use Rattle.tight.specs.Readers.{Readers}
 
 pub readers : Readers
 readers = record {

@@ -1,19 +1,19 @@
 -- What is served goes on as the trace does: the bytes that are held and those that a read put behind them are the first of
 -- the block, and so is what they leave over. Assumes nothing.
 use mathlib.Core.Path.{_≡_, refl, sym, ap, subst, _∙_}
-use mathlib.Core.List.{List, [], _∷_, _++_, map, append-nil}
-use Prim.Native.Nat.{ℕ, _+_, _-_, _*_, _/_, _%_, _≤_, _<_}
+use mathlib.Core.List.{List, [], _++_, map}
+use Prim.Native.Nat.{ℕ, _+_, _-_, _/_, _%_, _≤_}
 use native.Mathlib.Omega.{arith}
 use lib.ListN.{length, take, drop, take-append-drop, length-append, length-drop}
 use lib.Seq.{sets, sets-eq, take-take, take-append-seam, length-take-le}
 use Rattle.rules.specs.Board.{printer}
 use Rattle.rules.specs.Requests.{requestLength}
 use Rattle.rules.specs.Door.{tableAfter}
-use Rattle.rules.specs.Trace.{cleanly, traceFrom, shortLine, wholeRecords}
+use Rattle.rules.specs.Trace.{cleanly, shortLine, wholeRecords}
 use Rattle.text.specs.Text.{traceText}
 use Rattle.text.specs.Puts.{Puts}
 use Rattle.replay.specs.Replay.{Replayed, leftOver}
-use Rattle.replay.specs.Parts.{Stand, begins, lines, after, last}
+use Rattle.replay.specs.Parts.{Stand, begins, after}
 use Rattle.replay.proofs.Parts.{left-length, as-one, after-nothing}
 use Rattle.trace.specs.Going.{standing, Traced, Ended}
 

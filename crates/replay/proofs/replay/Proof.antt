@@ -2,9 +2,10 @@
 -- of the input falls. Assumes nothing.
 use borrow.Author.Needs.{needs}
 use native.Mathlib.Omega.{arith}
-use mathlib.Core.Path.{_≡_, refl, sym, ap, subst, _∙_}
+use mathlib.Core.Path.{_≡_, refl, sym, subst, _∙_}
 use Prim.Native.Nat.{ℕ, _+_, _-_, _≤_, _<_}
 use lib.ListN.{length}
+use denote.Ref.{now}
 use mathlib.Core.List.{List, [], _∷_}
 use mathlib.Core.Logic.{⊎-elim}
 use types.Run.{OneOf}
@@ -18,10 +19,6 @@ use Rattle.reader.proofs.Means.{Means, read-means}
 use Rattle.replay.proofs.Progress.{Progress, started, turned, ended}
 use Rattle.replay.proofs.replay.Statement.{statement}
 use Rattle.replay.proofs.replay.Tie as tie
-use Rattle.replay.proofs.replay.Reads as reads
-use Rattle.replay.proofs.replay.Lts as lts
-use Rattle.reader.proofs.read_from.Reads as read-from-reads
-use Rattle.replay.proofs.serve_record.Reads as serve-record-reads
 
 -- what was read is a record: it is whole, and stands where it was asked for
 whole : (bytes : List ℕ) (at i : ℕ) (r : Read) → r ≡ readAt bytes at → r ≡ Record i → (i ≡ at) × (at + requestLength ≤ length bytes)
@@ -43,52 +40,59 @@ Inv-loop table₀ input first out₀ at₀ number₀ next₀ table out at number
 abbrev μ-loop : tie.MeasureT-loop
 μ-loop table₀ input first out₀ at₀ number₀ next₀ table out at number next = length input - at
 
--- src/lib.rt:54:5
 loop-holds : tie.Need-loop-holds Inv-loop μ-loop
 loop-holds c = (refl, refl, started _ _ _ _)
 
--- src/lib.rt:55:43
 read-from-requires : tie.Need-read-from-requires Inv-loop μ-loop
 read-from-requires c κs = search needs
 
--- src/lib.rt:55:32
 enum-known-record : tie.Need-enum-known-record Inv-loop μ-loop
 enum-known-record c = search needs
 
--- src/lib.rt:58:9
 serve-record-requires : tie.Need-serve-record-requires Inv-loop μ-loop
 serve-record-requires c κs =
+    let loop = c .before .before .before .before .before .before .loop in
+    let start = c .before .before .before .before .before .before .before .before .before .before in
     let w = whole _ _ _ _ (c .before .before .before .before .before .read-from .ensures) (c .before .before .before .«record» .given .1) in
-    let p = c .before .before .before .before .before .before .loop .inv .2 in
-    (c .before .before .before .before .before .before .loop .inv .0 ∙ c .before .before .before .before .before .before .before .before .before .before .pre .0, (omega (arith, w), omega (arith, w, p .room, p .place, c .before .before .before .before .before .before .loop .inv .1, c .before .before .before .before .before .before .before .before .before .before .pre .1 .1)))
+    let p = loop .inv .2 in
+    (loop .inv .0 ∙ start .pre .0, (omega (arith, w), omega (arith, w, p .room, p .place, loop .inv .1, start .pre .1 .1)))
 
--- src/lib.rt:59:9
+-- the record that a turn has served is whole, and stands where the turn began
+was-whole : (c : tie.After-slice-known4 Inv-loop μ-loop) →
+    let taken = c .before .before .before .before .before .before .before .before .«record» in
+    let loop = c .before .before .before .before .before .before .before .before .before .before .before .loop in
+    let start = c .before .before .before .before .before .before .before .before .before .before .before .before .before .before .before in
+    (taken .given .0 .0 ≡ loop .at) × (loop .at + requestLength ≤ length (now (start .args .input)))
+was-whole c =
+    let read = c .before .before .before .before .before .before .before .before .before .before .read-from in
+    let taken = c .before .before .before .before .before .before .before .before .«record» in
+    whole _ _ _ _ (read .ensures) (taken .given .1)
+
 add-number : tie.Need-add-number Inv-loop μ-loop
-add-number c = omega (arith, (c .before .before .before .before .before .before .before .before .before .before .before .loop .inv .2) .count, (c .before .before .before .before .before .before .before .before .before .before .before .loop .inv .2) .place, whole _ _ _ _ (c .before .before .before .before .before .before .before .before .before .before .read-from .ensures) (c .before .before .before .before .before .before .before .before .«record» .given .1), c .before .before .before .before .before .before .before .before .before .before .before .before .before .before .before .pre .1 .0)
+add-number c =
+    let loop = c .before .before .before .before .before .before .before .before .before .before .before .loop in
+    let start = c .before .before .before .before .before .before .before .before .before .before .before .before .before .before .before in
+    omega (arith, loop .inv .2 .count, loop .inv .2 .place, was-whole c, start .pre .1 .0)
 
--- src/lib.rt:60:14
 add-at : tie.Need-add-at Inv-loop μ-loop
-add-at c = omega (arith, whole _ _ _ _ (c .before .before .before .before .before .before .before .before .before .before .read-from .ensures) (c .before .before .before .before .before .before .before .before .«record» .given .1))
+add-at c = omega (arith, was-whole c)
 
--- src/lib.rt:54:5
 loop-less : tie.Need-loop-less Inv-loop μ-loop
-loop-less c = omega (arith, whole _ _ _ _ (c .before .before .before .before .before .before .before .before .before .before .read-from .ensures) (c .before .before .before .before .before .before .before .before .«record» .given .1))
+loop-less c = omega (arith, was-whole c)
 
--- src/lib.rt:54:5
 loop-again : tie.Need-loop-again Inv-loop μ-loop
 loop-again c =
-    let w = whole _ _ _ _ (c .before .before .before .before .before .before .before .before .before .before .read-from .ensures) (c .before .before .before .before .before .before .before .before .«record» .given .1) in
-    (c .before .before .before .before .serve-record .kept .0 ∙ c .before .before .before .before .before .before .before .before .before .before .before .loop .inv .0, c .before .before .before .before .serve-record .kept .1 .1 .1 .1 .0 ∙ c .before .before .before .before .before .before .before .before .before .before .before .loop .inv .1, turned _ _ _ _ (c .before .before .before .before .before .before .before .before .before .before .before .loop .inv .2) _ (w .0) (w .1) _ _ _ (c .before .before .before .before .serve-record .ensures .0) (c .before .before .before .before .serve-record .ensures .1 .0) (c .before .before .before .before .serve-record .ensures .1 .1))
+    let served = c .before .before .before .before .serve-record in
+    let loop = c .before .before .before .before .before .before .before .before .before .before .before .loop in
+    let w = was-whole c in
+    (served .kept .0 ∙ loop .inv .0, served .kept .1 .1 .1 .1 .0 ∙ loop .inv .1, turned _ _ _ _ (loop .inv .2) _ (w .0) (w .1) _ _ _ (served .ensures .0) (served .ensures .1 .0) (served .ensures .1 .1))
 
--- src/lib.rt:45:1
 same-length : tie.Need-same-length Inv-loop μ-loop
 same-length c = search needs
 
--- src/lib.rt:45:1
 same-length-2 : tie.Need-same-length-2 Inv-loop μ-loop
 same-length-2 c = search needs
 
--- src/lib.rt:45:1
 returns : tie.Need-returns Inv-loop μ-loop
 returns c = ended _ _ _ _ (c .before .before .loop .inv .2) (none-whole (c .before .before .before .before .before .before .args .input .now) (c .before .before .loop .at) (c .before .read-from .result) (c .match .keys2) (c .before .read-from .ensures))
 

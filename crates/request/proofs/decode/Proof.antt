@@ -37,8 +37,9 @@ request-of-requires c κs = search needs
 returns-3 : tie.Need-returns-3
 unfolding decodeRequest
 returns-3 c =
+    let twelve = c .before .before .before .before .before .before .before .before .if1 .left in
     rw (
-      eq-eqb _ _ (c .before .before .before .before .before .before .before .before .if1 .left),
+      eq-eqb _ _ twelve,
       eq-eqb _ _ (c .before .before .before .before .before .before .if2 .left),
     )
     (rw (c .before .before .before .before .before .word-at .ensures, c .before .before .before .before .word-at2 .ensures)

@@ -66,9 +66,9 @@ module _ (t : ℕ) where
 
   returns-2 : lts.Need-returns-2 (calls t) (Given t) put-number.Post
   returns-2 c =
-      rw (decimal-more
-      (c .before .before .before .before .before .before .before .before .before .before .args .n)
-      (c .before .before .before .before .before .before .before .before .if1 .left))
+      let start = c .before .before .before .before .before .before .before .before .before .before in
+      let large = c .before .before .before .before .before .before .before .before .if1 .left in
+      rw (decimal-more (start .args .n) large)
       (c .before .before .before .before .before .before .put-number .ensures followed-by c .before .before .put-byte2 .ensures)
 
 pub +put-number-spec : {M : Type 1} → statement M

@@ -27,13 +27,19 @@ put-signed-requires : tie.Need-put-signed-requires
 put-signed-requires c κs = omega (arith, room (c .before .before .before .before .before .before))
 
 put-byte-requires : tie.Need-put-byte-requires
-put-byte-requires c κs = omega (arith, room (c .before .before .before .before .before .before .before .before .before .before))
+put-byte-requires c κs =
+    let start = c .before .before .before .before .before .before .before .before .before .before in
+    omega (arith, room start)
 
 put-field-requires-2 : tie.Need-put-field-requires-2
-put-field-requires-2 c κs = omega (arith, room (c .before .before .before .before .before .before .before .before .before .before .before .before .before .before))
+put-field-requires-2 c κs =
+    let start = c .before .before .before .before .before .before .before .before .before .before .before .before .before .before in
+    omega (arith, room start)
 
 put-field-requires-3 : tie.Need-put-field-requires-3
-put-field-requires-3 c κs = omega (arith, room (c .before .before .before .before .before .before .before .before .before .before .before .before .before .before .before .before .before .before))
+put-field-requires-3 c κs =
+    let start = c .before .before .before .before .before .before .before .before .before .before .before .before .before .before .before .before .before .before in
+    omega (arith, room start)
 
 same-length : tie.Need-same-length
 same-length c = search needs

@@ -1,15 +1,14 @@
 -- `trace::run` meets its contract: all that has come has left the trace where it stands, from turn to turn; the reads that are left fall.
 -- Assumes nothing.
-use mathlib.Core.Path.{_≡_, refl, sym, ap, subst, _∙_}
+use mathlib.Core.Path.{_≡_, refl, sym, _∙_}
 use native.Mathlib.Omega.{arith}
 use Prim.Native.Nat.{_+_, _-_, _*_, _≤_, _<_}
-use lib.ListN.{length, take}
+use lib.ListN.{length}
 use lib.Seq.{length-take-le}
 use denote.Ref.{now}
 use borrow.Author.Needs.{needs}
 use Rattle.rules.specs.Requests.{requestLength}
-use Rattle.text.specs.Puts.{lineRoom}
-use Rattle.trace.specs.Going.{standing, Traced, Ended}
+use Rattle.trace.specs.Going.{standing, Traced}
 use Rattle.trace.proofs.Turns.{none-seen, traced-part, traced-same, ended-by}
 use Rattle.trace.proofs.run.Statement.{statement}
 use Rattle.trace.proofs.run.Tie as tie
@@ -113,9 +112,15 @@ loop-again c =
     traced-part (loop .block) (come .last .0) (loop .held) (come .result .n) (come .ensures .1) (come .ensures .0 .0) (come .ensures .0 .1) _ _ _ _ _ _ _ _ _ (loop .inv .6)
     (served .ensures .0) (served .ensures .1 .0) (served .ensures .1 .1 .0) (served .ensures .1 .1 .1) in
     let some = c .before .before .before .before .before .before .before .before .before .before .before .before .before .before .before .before .loop-test .taken in
-    let number : served .result .number + 1024 * (loop .reads - 1) ≤ 1152921504606846976 = omega (arith, served .ensures .1 .0, come .ensures .0, come .kept .0, loop .inv .2, loop .inv .4, some) in
-    (served .kept .0 ∙ loop .inv .0, served .kept .1 .1 .1 .1 .0 ∙ loop .inv .1, served .kept .1 .1 .0 ∙ come .kept .0 ∙ loop .inv .2,
-    omega (arith, served .ensures .1 .1 .0), number, omega (arith, come .ensures .0, come .kept .0, loop .inv .2, loop .inv .5, some), traced)
+    let number : served .result .number + 1024 * (loop .reads - 1) ≤ 1152921504606846976 = omega (arith, served .ensures .1 .0, come .ensures .0, come .kept .0, loop .inv .2, loop .inv .4, some) in (
+      served .kept .0 ∙ loop .inv .0,
+      served .kept .1 .1 .1 .1 .0 ∙ loop .inv .1,
+      served .kept .1 .1 .0 ∙ come .kept .0 ∙ loop .inv .2,
+      omega (arith, served .ensures .1 .1 .0),
+      number,
+      omega (arith, come .ensures .0, come .kept .0, loop .inv .2, loop .inv .5, some),
+      traced,
+    )
 
 close-requires-3 : tie.Need-close-requires-3 Inv-loop μ-loop
 close-requires-3 c κs = search needs
