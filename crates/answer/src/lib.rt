@@ -64,5 +64,5 @@ pub fn put_answer(area: &mut [u8], a: Answer)
     ensures { λ _. ⌜ now (area .exit) ≡ areaOf a ⌝ }
 {
     words::put_word(area, 0, bits(code(a)));
-    words::put_word(area, 4, value(a));
+    words::put_word(area, rules::VALUE_FROM, value(a));
 }

@@ -51,10 +51,13 @@ Demand3 = (b : Board) → FairDoor b (door b)
 
 -- THE SHARE. The demand speaks of one round; in k rounds each thread was charged k turns. So over whole rounds, of the ticks charged to the
 -- rank, a thread has its turn out of the sum of the turns.
-abbrev pub FairRounds : Board → Door → Type 0
-FairRounds b d = (t : List ℕ) (hs : List Handed) → InEveryPart b t (runOf b d t hs) (λ p s part.
+abbrev pub Shares : Board → List ℕ → List Event → Type 0
+Shares b t run = InEveryPart b t run (λ p s part.
     (k : ℕ) → count (chargedRank p) part ≡ k * sumTurns p (s .threads)
     → (i : ℕ) → readyAt p s i ≡ true → count (chargedTo i) part ≡ k * at (s .threads) i .turn)
+
+abbrev pub FairRounds : Board → Door → Type 0
+FairRounds b d = (t : List ℕ) (hs : List Handed) → Shares b t (runOf b d t hs)
 
 abbrev pub WholeRounds : Type 0
 WholeRounds = (b : Board) → FairRounds b (door b)

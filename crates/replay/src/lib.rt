@@ -44,7 +44,7 @@ fn serve_record(
 {
     let mut area = [0u8; rules::AREA];
     let code = kernel::speltmallet_door(table, &input[at..at + rules::REQUEST], &mut area);
-    let value = words::word_at(&area, 4);
+    let value = words::word_at(&area, rules::VALUE_FROM);
     let running = records::running(table);
     text::put_line(out, to, number, code, value, running as u8)
 }

@@ -19,6 +19,7 @@ pub use numbers::SEMAPHORES_FROM;
 pub use numbers::TABLE;
 pub use numbers::THREADS;
 pub use numbers::TOP_PRIORITY;
+pub use numbers::VALUE_FROM;
 
 // "A thread has one wait at a time, of one kind": the kind, its object and its counter. A thread that waits for
 // nothing has what is left of its turn as its counter.

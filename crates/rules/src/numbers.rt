@@ -39,3 +39,6 @@ pub const REQUEST: usize = 12;
 
 // "An 8-byte answer area."
 pub const AREA: usize = 8;
+
+// "Code as signed 32 bits, then value": the byte at which the value starts.
+pub const VALUE_FROM: usize = 4;

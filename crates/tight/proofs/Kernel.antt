@@ -14,11 +14,11 @@ use Rattle.kernel.proofs.speltmallet_door.Met.{met}
 use Rattle.promises.specs.Demand1.{Answered}
 use Rattle.promises.specs.Demand2.{Ruled}
 use Rattle.fairness.specs.Doors.{eventOf, runOf}
-use Rattle.promises.specs.Demand3.{Fair}
+use Rattle.promises.specs.Demand3.{Fair, Shares}
 use Rattle.tight.specs.Kernel.{Call, Runs, events, Kernel}
 use Rattle.promises.proofs.First.{first}
 use Rattle.promises.proofs.Second.{second}
-use Rattle.promises.proofs.Third.{demand3}
+use Rattle.promises.proofs.Third.{whole-rounds, demand3}
 
 -- three facts, one after the other, are one
 three : {M : Type 1} (𝓤 : URA M) (a b c φ : Type 0) → (a → b → c → φ) → ent 𝓤 (sep 𝓤 (fact 𝓤 a) (sep 𝓤 (fact 𝓤 b) (fact 𝓤 c))) (fact 𝓤 φ)
@@ -50,4 +50,5 @@ kernel = record {
   first = λ x d e. subst (λ d. Answered printer (now (x .table)) (now (x .request)) (now (x .area)) d) (sym e) (first printer _ _ _);
   second = λ x d σ e. subst (λ d. Ruled printer (now (x .table)) (now (x .request)) (now (x .area)) d) (sym e) (second .ruled printer _ _ _ σ);
   third = λ t cs h. subst (λ es. Fair printer t es) (run-of t cs h) (demand3 printer t (map handed cs));
+  shares = λ t cs h. subst (λ es. Shares printer t es) (run-of t cs h) (whole-rounds printer t (map handed cs));
 }

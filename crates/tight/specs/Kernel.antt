@@ -23,7 +23,7 @@ use Rattle.kernel.proofs.speltmallet_door.Statement.{statement}
 use Rattle.promises.specs.Demand1.{Answered}
 use Rattle.promises.specs.Demand2.{Ruled}
 use Rattle.fairness.specs.Doors.{eventOf}
-use Rattle.promises.specs.Demand3.{Fair}
+use Rattle.promises.specs.Demand3.{Fair, Shares}
 
 -- ONE CALL
 
@@ -89,3 +89,5 @@ pub record Kernel : Type 2 where
   pub second : (x : Lent) (d : Doored) → SoundTable printer (now (x .table)) → Allowed x d → Ruled printer (now (x .table)) (now (x .request)) (now (x .area)) d
   -- demand 3
   pub third : (t : List ℕ) (cs : List Call) → Runs t cs → Fair printer t (events t cs)
+  -- and the share over whole rounds
+  pub shares : (t : List ℕ) (cs : List Call) → Runs t cs → Shares printer t (events t cs)
