@@ -45,6 +45,13 @@ done
 
 [ "$(instructions '%xmm')" -gt 0 ] || stop "the header says that the archive uses SSE registers, and no instruction does: let the header say so"
 [ "$(instructions '%(ymm|zmm|mm[0-7]|st\b|k[0-7])|^(v[a-z]|f[a-z])|^emms')" = 0 ] || stop "an instruction names a register of x87, MMX or AVX"
+# a name that is not in the list may be right all the same: look it up, and add it if it is SSE2's
+sse2='movd movq movdqa movdqu movaps movups pand pandn por pxor pcmpeqb pcmpeqw pcmpeqd pmovmskb pshufd psrlw psrld psrlq psllw pslld psllq'
+strange=$(awk -v known="$sse2" '
+  BEGIN { split(known, names, " "); for (at in names) is_known[names[at]] }
+  /%xmm/ && !($1 in is_known) { print $1 }
+' "$room/instructions" | sort -u | tr '\n' ' ')
+[ -z "$strange" ] || stop "the header says SSE2, and these instructions are not known to be of it: $strange"
 
 # the number in the header is the one that docs/BENCH.md has
 measured=$(sed -n 's/^| \*\*the most of all\*\* | \*\*\([0-9]*\)\*\* .*/\1/p' ../../docs/BENCH.md)

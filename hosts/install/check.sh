@@ -1,7 +1,7 @@
 #!/usr/bin/env bash
 # What is installed serves a firmware that knows nothing of this repository: hosts/install/check.sh LIBDIR, the folder that has libkernel.a.
-# The printer is built outside of the checkout by the flags that pkg-config gives, and says what examples/ has. Then what install.sh
-# refuses, and that it leaves nothing behind where it does.
+# The printer is built outside of the checkout by the flags that pkg-config gives, and says what examples/ has; what docs/FIRMWARE.md
+# shows in C compiles. Then what install.sh refuses, and that it leaves nothing behind where it does.
 set -euo pipefail
 
 stop() {
@@ -74,9 +74,24 @@ prints() {
   cmp "$away/shares" "$top/examples/two-lanes.shares" || stop "the installed kernel's printer says otherwise than examples/two-lanes.shares"
 }
 
+# ROOT: the pieces of C in docs/FIRMWARE.md are one file that compiles without a warning
+reads() {
+  checks=$((checks + 1))
+  {
+    printf '#include <stdint.h>\nvoid start(void);\nvoid switch_context(int from, int to);\n'
+    printf 'static unsigned long forbid_interrupts(void);\nstatic void restore_interrupts(unsigned long flags);\n'
+    awk '/^```/ { is_code = $0 == "```c"; next } is_code' "$top/docs/FIRMWARE.md"
+  } >"$room/pieces.c"
+  "$top/hosts/x86_64" cc -Wall -Wextra -Werror -O2 -mno-red-zone -I"$1/include" "$room/pieces.c" -o "$room/pieces.o" ||
+    stop "the pieces of C in docs/FIRMWARE.md don't compile"
+  [ "$(nm -u "$room/pieces.o" | awk '{ print $2 }' | sort | tr '\n' ' ')" = "speltmallet_door switch_context " ] ||
+    stop "the pieces of C in docs/FIRMWARE.md need: $(nm -u "$room/pieces.o")"
+}
+
 installed "$room/plain"
 complete "$room/plain"
 prints "$room/plain"
+reads "$room/plain"
 
 # a second time over the first, where the first is out of date and unreadable to others
 printf 'old\n' >"$room/plain/include/speltmallet.h"
