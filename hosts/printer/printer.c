@@ -56,18 +56,19 @@ static void stop(const char *what, const char *about)
 
 /*
  * The guard around the door, to be filled in: one call at a time for a table. On bare metal the first keeps the processor's flags and
- * forbids interrupts, the second puts the flags back. In this simulation no interrupt comes by itself, and there is nothing to do.
+ * forbids interrupts, the second puts the flags back (docs/FIRMWARE.md has both for x86-64). In this simulation no interrupt comes by
+ * itself, and there is nothing to do.
  */
 typedef unsigned long interrupt_state;
 
 static interrupt_state forbid_interrupts(void)
 {
-    return 0; /* x86-64: pushfq; popq %0; cli */
+    return 0;
 }
 
 static void restore_interrupts(interrupt_state before)
 {
-    (void)before; /* x86-64: pushq %0; popfq */
+    (void)before;
 }
 
 /*
@@ -124,8 +125,8 @@ static void must(struct printer *p, uint8_t operation, uint8_t object, uint8_t p
     int32_t code = ask(p, operation, object, priority, number, data);
 
     if (code < 0) {
-        fprintf(stderr, "printer: %s is refused: ", speltmallet_operation_name(operation));
-        stop(speltmallet_code_name(code), "");
+        fprintf(stderr, "printer: the kernel answers %s with %s\n", speltmallet_operation_name(operation), speltmallet_code_name(code));
+        exit(1);
     }
 }
 
