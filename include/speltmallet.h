@@ -9,9 +9,10 @@
  *     static const uint8_t tick[SPELTMALLET_REQUEST_BYTES] = { SPELTMALLET_OP_TICK };
  *
  *     code = speltmallet_door(table, sizeof table, tick, sizeof tick, answer, sizeof answer);
- *     run(table[SPELTMALLET_KERNEL + SPELTMALLET_KERNEL_RUNNING]);
+ *     run(speltmallet_running(table));
  *
- * The door takes every table and every request and needs no test before it: a bad one gets its refusal number.
+ * The door takes every table and every request and needs no test before it: a bad one gets its refusal number. docs/FIRMWARE.md
+ * goes from here to a running printer.
  */
 #ifndef SPELTMALLET_H
 #define SPELTMALLET_H
@@ -22,6 +23,12 @@
 #ifdef __cplusplus
 extern "C" {
 #endif
+
+/* The project's version; the file VERSION has it too. */
+#define SPELTMALLET_VERSION "0.6.0"
+#define SPELTMALLET_VERSION_MAJOR 0
+#define SPELTMALLET_VERSION_MINOR 6
+#define SPELTMALLET_VERSION_PATCH 0
 
 /*
  * Puts one request to the kernel. Gives the code; the answer area holds the code (signed, 32 bits) and the value (32 bits).
@@ -40,6 +47,20 @@ extern "C" {
  * - One call at a time for a table: an interrupt that makes a request of its own is kept out while a call runs.
  * - Nobody else writes to the table. What the kernel is handed it tests, so that a damaged table is refused (-7), but a change
  *   that leaves the table sound is taken for the kernel's own.
+ *
+ * What the archive asks of its place, which is an x86-64 processor:
+ *
+ * - The System V calling convention, with a stack pointer that is a multiple of 16 at the call: 16 bytes at once are stored on the
+ *   stack by instructions that fault elsewhere. In C the compiler sees to both; an interrupt's entry in assembler has to.
+ * - 288 bytes of stack below the caller's frame, return address and red zone among them. That is the most measured (docs/BENCH.md).
+ * - The red zone: the archive keeps data in the 128 bytes below its stack pointer. An interrupt that is taken on the same stack
+ *   overwrites them. On bare metal give every interrupt that can come during a call a stack of its own (an IST entry), those that
+ *   can't be masked among them.
+ * - SSE2, switched on, and the registers xmm0 to xmm15, which a call may change as the convention allows. An interrupt that calls
+ *   the door saves all of them before and restores them after (fxsave, fxrstor), as it does with the general registers that a call
+ *   may change. No instruction of the archive names a register of x87, MMX or AVX.
+ * - Nothing to link: it has no undefined symbols. It has no data that can be written, so that calls with different tables may run
+ *   at the same time.
  */
 int32_t speltmallet_door(uint8_t *table, size_t table_len, const uint8_t *request, size_t request_len, uint8_t *answer,
                          size_t answer_len);
@@ -69,36 +90,101 @@ int32_t speltmallet_door(uint8_t *table, size_t table_len, const uint8_t *reques
 #define SPELTMALLET_BAD_PRIORITY (-2) /* above 31 */
 #define SPELTMALLET_BAD_TICKS (-3) /* a turn or delay of 0 or above 99,999 */
 #define SPELTMALLET_BAD_STATE (-4) /* Suspend: suspended; Resume: not; Cancel: in no delay; Abort: waits on no semaphore */
-#define SPELTMALLET_BAD_OPERATION (-5) /* not now, as each operation says below */
+#define SPELTMALLET_BAD_OPERATION (-5) /* not now: as each operation says below */
 #define SPELTMALLET_BAD_SEMAPHORE (-6) /* above 7, or free (Make: in use) */
 #define SPELTMALLET_BAD_TABLE (-7) /* unsound, or the answer area is not 8 bytes */
 #define SPELTMALLET_BAD_RECORD (-8) /* not 12 bytes, operation above 20, byte 3 or an unused field not zero */
 
 /*
- * Operations, with the fields that each uses; the others are zero. The running thread is the caller, except in those from
- * interrupts. "Must wait" is BAD_OPERATION if the wait number is 0, the caller is Init or the lock is on.
+ * Operations: the fields that each uses (the others are zero), then its refusals in the order in which they are tested. Before them
+ * BAD_TABLE (-7) is tested and then BAD_RECORD (-8), for every operation alike. The first that holds is the answer.
+ *
+ * The running thread is the caller, except in 9, 16 and 19, which come from interrupts. A call "may not wait" if its wait number is
+ * 0, the caller is Init or the lock is on. A thread or semaphore is free where its record is not in use.
  */
+
+/* Yield: no fields, no refusals. */
 #define SPELTMALLET_OP_YIELD 0
-#define SPELTMALLET_OP_CREATE 1 /* object (thread), priority, number (turn) */
-#define SPELTMALLET_OP_DELETE 2 /* object; -5 for Init, or the running thread under lock */
-#define SPELTMALLET_OP_SET 3 /* object, priority, number (turn); -5 for Init */
-#define SPELTMALLET_OP_SUSPEND 4 /* object; -5 for Init, or the running thread under lock */
-#define SPELTMALLET_OP_RESUME 5 /* object */
-#define SPELTMALLET_OP_DELAY 6 /* number (ticks); -5 for Init or under lock */
-#define SPELTMALLET_OP_CANCEL 7 /* object: ends its delay */
-#define SPELTMALLET_OP_SEND 8 /* object, number (wait), data; -5 to oneself; to a full mailbox must wait */
-#define SPELTMALLET_OP_SEND_FROM_INTERRUPT 9 /* object, data; -5 under lock or if full */
-#define SPELTMALLET_OP_RECEIVE 10 /* number (wait); an empty mailbox must wait */
-#define SPELTMALLET_OP_MAKE 11 /* object (semaphore), number (count); -5 if above 99 */
-#define SPELTMALLET_OP_DROP 12 /* object (semaphore) */
-#define SPELTMALLET_OP_PEND 13 /* object (semaphore), number (wait); with count 0 must wait */
-#define SPELTMALLET_OP_ABORT 14 /* object (thread): ends its wait on a semaphore */
-#define SPELTMALLET_OP_POST 15 /* object (semaphore), number (units); -5 if 0, or if count and units are above 99 */
-#define SPELTMALLET_OP_POST_FROM_INTERRUPT 16 /* the same; -5 also under lock */
-#define SPELTMALLET_OP_LOCK 17 /* -5 at 255 */
-#define SPELTMALLET_OP_UNLOCK 18 /* -5 at 0 */
-#define SPELTMALLET_OP_TICK 19 /* from the timer's interrupt */
-#define SPELTMALLET_OP_OUTCOME 20 /* object */
+
+/* Create: object (thread), priority, number (turn).
+ * -2 priority above 31; -3 turn 0 or above 99,999; -1 thread above 15, or in use. */
+#define SPELTMALLET_OP_CREATE 1
+
+/* Delete: object (thread).
+ * -1 thread above 15, or free; -5 thread is Init, or runs under lock. */
+#define SPELTMALLET_OP_DELETE 2
+
+/* Set: object (thread), priority, number (turn).
+ * -2 priority above 31; -3 turn 0 or above 99,999; -1 thread above 15, or free; -5 thread is Init. */
+#define SPELTMALLET_OP_SET 3
+
+/* Suspend: object (thread).
+ * -1 thread above 15, or free; -4 already suspended; -5 thread is Init, or runs under lock. */
+#define SPELTMALLET_OP_SUSPEND 4
+
+/* Resume: object (thread).
+ * -1 thread above 15, or free; -4 not suspended. */
+#define SPELTMALLET_OP_RESUME 5
+
+/* Delay: number (ticks).
+ * -3 delay 0 or above 99,999; -5 caller is Init, or lock is on. */
+#define SPELTMALLET_OP_DELAY 6
+
+/* Cancel, which ends a delay: object (thread).
+ * -1 thread above 15, or free; -4 not in a delay. */
+#define SPELTMALLET_OP_CANCEL 7
+
+/* Send: object (thread), number (wait), data.
+ * -1 thread above 15, or free; -5 to oneself, or mailbox full and the caller may not wait. */
+#define SPELTMALLET_OP_SEND 8
+
+/* Send from interrupt: object (thread), data.
+ * -1 thread above 15, or free; -5 lock is on, or mailbox full. */
+#define SPELTMALLET_OP_SEND_FROM_INTERRUPT 9
+
+/* Receive: number (wait).
+ * -5 mailbox empty and the caller may not wait. */
+#define SPELTMALLET_OP_RECEIVE 10
+
+/* Make semaphore: object (semaphore), number (count).
+ * -6 semaphore above 7, or in use; -5 count above 99. */
+#define SPELTMALLET_OP_MAKE 11
+
+/* Drop semaphore: object (semaphore).
+ * -6 semaphore above 7, or free. */
+#define SPELTMALLET_OP_DROP 12
+
+/* Pend: object (semaphore), number (wait).
+ * -6 semaphore above 7, or free; -5 count 0 and the caller may not wait. */
+#define SPELTMALLET_OP_PEND 13
+
+/* Abort, which ends a wait on a semaphore: object (thread).
+ * -1 thread above 15, or free; -4 not waiting on a semaphore. */
+#define SPELTMALLET_OP_ABORT 14
+
+/* Post: object (semaphore), number (units).
+ * -6 semaphore above 7, or free; -5 number is 0, or count plus units is above 99 (units that go to waiters count too). */
+#define SPELTMALLET_OP_POST 15
+
+/* Post from interrupt: object (semaphore), number (units).
+ * -6 semaphore above 7, or free; -5 as Post, or lock is on. */
+#define SPELTMALLET_OP_POST_FROM_INTERRUPT 16
+
+/* Lock: no fields.
+ * -5 lock count is 255. */
+#define SPELTMALLET_OP_LOCK 17
+
+/* Unlock: no fields.
+ * -5 lock count is 0. */
+#define SPELTMALLET_OP_UNLOCK 18
+
+/* Tick, from the timer's interrupt: no fields, no refusals. */
+#define SPELTMALLET_OP_TICK 19
+
+/* Outcome: object (thread).
+ * -1 thread above 15, or free. The codes 1, 0 and -5 are the outcome, and no refusals. */
+#define SPELTMALLET_OP_OUTCOME 20
+
 #define SPELTMALLET_OPERATIONS 21
 
 /* Where the fields of a request stand. */
@@ -151,6 +237,91 @@ int32_t speltmallet_door(uint8_t *table, size_t table_len, const uint8_t *reques
 #define SPELTMALLET_OUTCOME_NONE_YET 1
 #define SPELTMALLET_OUTCOME_DONE 0
 #define SPELTMALLET_OUTCOME_FAILED (-5)
+
+/*
+ * Helpers. They are inline and cost nothing where they are not used. A C89 compiler that is not known to have a word for inline
+ * gets them as plain static functions, and only where SPELTMALLET_HELPERS is defined before this header.
+ */
+#if defined(__cplusplus) || (defined(__STDC_VERSION__) && __STDC_VERSION__ >= 199901L)
+#define SPELTMALLET_HELPER static inline
+#elif defined(__GNUC__)
+#define SPELTMALLET_HELPER static __inline__
+#elif defined(SPELTMALLET_HELPERS)
+#define SPELTMALLET_HELPER static
+#endif
+
+#ifdef SPELTMALLET_HELPER
+
+/* Four bytes, the lowest first, as a number. */
+SPELTMALLET_HELPER uint32_t speltmallet_word(const uint8_t *at)
+{
+    return at[0] | (uint32_t)at[1] << 8 | (uint32_t)at[2] << 16 | (uint32_t)at[3] << 24;
+}
+
+/* A number as four bytes, the lowest first. */
+SPELTMALLET_HELPER void speltmallet_put_word(uint8_t *at, uint32_t word)
+{
+    at[0] = (uint8_t)(word & 255);
+    at[1] = (uint8_t)(word >> 8 & 255);
+    at[2] = (uint8_t)(word >> 16 & 255);
+    at[3] = (uint8_t)(word >> 24 & 255);
+}
+
+/* Fills a request record; a field that the operation does not use is 0. */
+SPELTMALLET_HELPER void speltmallet_request(uint8_t request[SPELTMALLET_REQUEST_BYTES], uint8_t operation, uint8_t object,
+                                            uint8_t priority, uint32_t number, uint32_t data)
+{
+    request[SPELTMALLET_REQUEST_OPERATION] = operation;
+    request[SPELTMALLET_REQUEST_OBJECT] = object;
+    request[SPELTMALLET_REQUEST_PRIORITY] = priority;
+    request[SPELTMALLET_REQUEST_ZERO] = 0;
+    speltmallet_put_word(request + SPELTMALLET_REQUEST_NUMBER, number);
+    speltmallet_put_word(request + SPELTMALLET_REQUEST_DATA, data);
+}
+
+/* Makes a table fresh. */
+SPELTMALLET_HELPER void speltmallet_reset(uint8_t table[SPELTMALLET_TABLE_BYTES])
+{
+    static const uint8_t init[SPELTMALLET_RECORD_BYTES] = SPELTMALLET_FRESH;
+    size_t k;
+
+    for (k = 0; k < SPELTMALLET_TABLE_BYTES; k++)
+        table[k] = (uint8_t)(k < sizeof init ? init[k] : 0);
+}
+
+/* The thread that runs now. */
+SPELTMALLET_HELPER uint8_t speltmallet_running(const uint8_t table[SPELTMALLET_TABLE_BYTES])
+{
+    return table[SPELTMALLET_KERNEL + SPELTMALLET_KERNEL_RUNNING];
+}
+
+/* The value of an answer. */
+SPELTMALLET_HELPER uint32_t speltmallet_value(const uint8_t answer[SPELTMALLET_ANSWER_BYTES])
+{
+    return speltmallet_word(answer + SPELTMALLET_ANSWER_VALUE);
+}
+
+/* The name of a code, as it stands above: "BAD_THREAD". Of Outcome's answers 1 and -5 it gives the name of the number, too. */
+SPELTMALLET_HELPER const char *speltmallet_code_name(int32_t code)
+{
+    static const char *const names[] = { "BLOCKED", "DONE", "BAD_THREAD", "BAD_PRIORITY", "BAD_TICKS", "BAD_STATE", "BAD_OPERATION",
+                                         "BAD_SEMAPHORE", "BAD_TABLE", "BAD_RECORD" };
+
+    return code > SPELTMALLET_BLOCKED || code < SPELTMALLET_BAD_RECORD ? "no code" : names[SPELTMALLET_BLOCKED - code];
+}
+
+/* The name of an operation: "Post from interrupt". */
+SPELTMALLET_HELPER const char *speltmallet_operation_name(uint8_t operation)
+{
+    static const char *const names[SPELTMALLET_OPERATIONS] = {
+        "Yield", "Create", "Delete", "Set", "Suspend", "Resume", "Delay", "Cancel", "Send", "Send from interrupt", "Receive",
+        "Make semaphore", "Drop semaphore", "Pend", "Abort", "Post", "Post from interrupt", "Lock", "Unlock", "Tick", "Outcome"
+    };
+
+    return operation < SPELTMALLET_OPERATIONS ? names[operation] : "no operation";
+}
+
+#endif
 
 #ifdef __cplusplus
 }

@@ -1,6 +1,6 @@
 /*
- * The door from C, as the firmware calls it: document 01's example run, and what each sort of refusal leaves alone. It prints a
- * line for each check that fails and ends with status 1 if there is one.
+ * The door from C, as the firmware calls it: document 01's example run, what each sort of refusal leaves alone, and the header's
+ * helpers. It prints a line for each check that fails and ends with status 1 if there is one.
  */
 #include "speltmallet.h"
 
@@ -21,37 +21,25 @@ static void check(const char *what, long got, long wanted) {
     }
 }
 
-static void put_word(uint8_t *bytes, uint32_t word) {
-    bytes[0] = (uint8_t)(word & 255);
-    bytes[1] = (uint8_t)(word >> 8 & 255);
-    bytes[2] = (uint8_t)(word >> 16 & 255);
-    bytes[3] = (uint8_t)(word >> 24 & 255);
-}
-
-static uint32_t word_at(const uint8_t *bytes) {
-    return bytes[0] | (uint32_t)bytes[1] << 8 | (uint32_t)bytes[2] << 16 | (uint32_t)bytes[3] << 24;
-}
-
-static void write_request(uint8_t operation, uint8_t object, uint8_t priority, uint32_t number, uint32_t data) {
-    request[SPELTMALLET_REQUEST_OPERATION] = operation;
-    request[SPELTMALLET_REQUEST_OBJECT] = object;
-    request[SPELTMALLET_REQUEST_PRIORITY] = priority;
-    request[SPELTMALLET_REQUEST_ZERO] = 0;
-    put_word(request + SPELTMALLET_REQUEST_NUMBER, number);
-    put_word(request + SPELTMALLET_REQUEST_DATA, data);
+static void check_text(const char *what, const char *got, const char *wanted) {
+    checks++;
+    if (strcmp(got, wanted) != 0) {
+        failures++;
+        printf("%s: got %s, wanted %s\n", what, got, wanted);
+    }
 }
 
 /* Puts a request whose answer and next running thread are known. */
 static void ask(const char *what, uint8_t operation, uint8_t object, uint8_t priority, uint32_t number, uint32_t data, int32_t code,
                 uint32_t value, uint8_t running) {
     int32_t returned;
-    write_request(operation, object, priority, number, data);
+    speltmallet_request(request, operation, object, priority, number, data);
     memset(answer, 0xA5, sizeof answer);
     returned = speltmallet_door(table, sizeof table, request, sizeof request, answer, sizeof answer);
     check(what, returned, code);
-    check(what, (int32_t)word_at(answer + SPELTMALLET_ANSWER_CODE), code);
-    check(what, (long)word_at(answer + SPELTMALLET_ANSWER_VALUE), (long)value);
-    check(what, table[SPELTMALLET_KERNEL + SPELTMALLET_KERNEL_RUNNING], running);
+    check(what, (int32_t)speltmallet_word(answer + SPELTMALLET_ANSWER_CODE), code);
+    check(what, (long)speltmallet_value(answer), (long)value);
+    check(what, speltmallet_running(table), running);
 }
 
 /* Document 01's example run, in the order of its records. */
@@ -73,7 +61,7 @@ static void mail(void) {
     const uint8_t *receiver = table + SPELTMALLET_THREAD(1);
     ask("Receive", SPELTMALLET_OP_RECEIVE, 0, 0, 7, 0, SPELTMALLET_BLOCKED, 0, 2);
     check("wait kind", receiver[SPELTMALLET_THREAD_WAIT_KIND], SPELTMALLET_WAIT_RECEIVE);
-    check("counter", (long)word_at(receiver + SPELTMALLET_THREAD_COUNTER), 7);
+    check("counter", (long)speltmallet_word(receiver + SPELTMALLET_THREAD_COUNTER), 7);
     ask("Send to a receiver", SPELTMALLET_OP_SEND, 1, 0, 0, 0x89ABCDEFUL, SPELTMALLET_DONE, 0, 2);
     ask("Outcome 1", SPELTMALLET_OP_OUTCOME, 1, 0, 0, 0, SPELTMALLET_OUTCOME_DONE, 0x89ABCDEFUL, 2);
     ask("Send from interrupt", SPELTMALLET_OP_SEND_FROM_INTERRUPT, 2, 0, 0, 22, SPELTMALLET_DONE, 0, 2);
@@ -92,26 +80,26 @@ static void refused(const char *what, size_t table_len, size_t request_len, size
     if (untouched) {
         check(what, memcmp(answer, unwritten, sizeof unwritten), 0);
     } else {
-        check(what, (int32_t)word_at(answer + SPELTMALLET_ANSWER_CODE), code);
-        check(what, (long)word_at(answer + SPELTMALLET_ANSWER_VALUE), 0);
+        check(what, (int32_t)speltmallet_word(answer + SPELTMALLET_ANSWER_CODE), code);
+        check(what, (long)speltmallet_value(answer), 0);
     }
 }
 
 static void refusals(void) {
     uint8_t *last = table + SPELTMALLET_TABLE_BYTES - 1;
-    write_request(SPELTMALLET_OP_DELETE, 0, 0, 0, 0);
+    speltmallet_request(request, SPELTMALLET_OP_DELETE, 0, 0, 0, 0);
     refused("Delete Init", 600, 12, 8, SPELTMALLET_BAD_OPERATION, 0);
-    write_request(SPELTMALLET_OP_CREATE, 3, SPELTMALLET_TOP_PRIORITY + 1, 1, 0);
+    speltmallet_request(request, SPELTMALLET_OP_CREATE, 3, SPELTMALLET_TOP_PRIORITY + 1, 1, 0);
     refused("priority 32", 600, 12, 8, SPELTMALLET_BAD_PRIORITY, 0);
-    write_request(SPELTMALLET_OP_SET, 1, 0, SPELTMALLET_MOST_TICKS + 1, 0);
+    speltmallet_request(request, SPELTMALLET_OP_SET, 1, 0, SPELTMALLET_MOST_TICKS + 1, 0);
     refused("turn 100,000", 600, 12, 8, SPELTMALLET_BAD_TICKS, 0);
-    write_request(SPELTMALLET_OP_RESUME, SPELTMALLET_THREADS, 0, 0, 0);
+    speltmallet_request(request, SPELTMALLET_OP_RESUME, SPELTMALLET_THREADS, 0, 0, 0);
     refused("thread 16", 600, 12, 8, SPELTMALLET_BAD_THREAD, 0);
-    write_request(SPELTMALLET_OP_RESUME, 1, 0, 0, 0);
+    speltmallet_request(request, SPELTMALLET_OP_RESUME, 1, 0, 0, 0);
     refused("Resume a ready thread", 600, 12, 8, SPELTMALLET_BAD_STATE, 0);
-    write_request(SPELTMALLET_OP_DROP, SPELTMALLET_SEMAPHORES, 0, 0, 0);
+    speltmallet_request(request, SPELTMALLET_OP_DROP, SPELTMALLET_SEMAPHORES, 0, 0, 0);
     refused("semaphore 8", 600, 12, 8, SPELTMALLET_BAD_SEMAPHORE, 0);
-    write_request(SPELTMALLET_OP_TICK, 0, 0, 0, 0);
+    speltmallet_request(request, SPELTMALLET_OP_TICK, 0, 0, 0, 0);
     refused("record of 11 bytes", 600, 11, 8, SPELTMALLET_BAD_RECORD, 0);
     request[SPELTMALLET_REQUEST_ZERO] = 1;
     refused("byte 3 not zero", 600, 12, 8, SPELTMALLET_BAD_RECORD, 0);
@@ -125,7 +113,41 @@ static void refusals(void) {
     check("lock count", table[SPELTMALLET_KERNEL + SPELTMALLET_KERNEL_LOCK], 1);
 }
 
+/* The helpers, each by what the layout and the names above say. */
+static void helpers(void) {
+    static const uint8_t fresh[SPELTMALLET_TABLE_BYTES] = SPELTMALLET_FRESH;
+    static const uint8_t bytes[SPELTMALLET_REQUEST_BYTES] = { 15, 7, 31, 0, 0x78, 0x56, 0x34, 0x12, 0xEF, 0xCD, 0xAB, 0x89 };
+    memset(request, 0xA5, sizeof request);
+    speltmallet_request(request, SPELTMALLET_OP_POST, 7, 31, 0x12345678UL, 0x89ABCDEFUL);
+    check("request", memcmp(request, bytes, sizeof bytes), 0);
+    check("word", speltmallet_word(bytes + 8) == 0x89ABCDEFUL, 1);
+    check("value", speltmallet_value(bytes) == 0x12345678UL, 1);
+    memset(table, 0xA5, sizeof table);
+    check("running", speltmallet_running(table), 0xA5);
+    speltmallet_reset(table);
+    check("reset", memcmp(table, fresh, sizeof fresh), 0);
+    check_text("code 1", speltmallet_code_name(SPELTMALLET_BLOCKED), "BLOCKED");
+    check_text("code 0", speltmallet_code_name(SPELTMALLET_DONE), "DONE");
+    check_text("code -1", speltmallet_code_name(SPELTMALLET_BAD_THREAD), "BAD_THREAD");
+    check_text("code -2", speltmallet_code_name(SPELTMALLET_BAD_PRIORITY), "BAD_PRIORITY");
+    check_text("code -3", speltmallet_code_name(SPELTMALLET_BAD_TICKS), "BAD_TICKS");
+    check_text("code -4", speltmallet_code_name(SPELTMALLET_BAD_STATE), "BAD_STATE");
+    check_text("code -5", speltmallet_code_name(SPELTMALLET_BAD_OPERATION), "BAD_OPERATION");
+    check_text("code -6", speltmallet_code_name(SPELTMALLET_BAD_SEMAPHORE), "BAD_SEMAPHORE");
+    check_text("code -7", speltmallet_code_name(SPELTMALLET_BAD_TABLE), "BAD_TABLE");
+    check_text("code -8", speltmallet_code_name(SPELTMALLET_BAD_RECORD), "BAD_RECORD");
+    check_text("code 2", speltmallet_code_name(2), "no code");
+    check_text("code -9", speltmallet_code_name(-9), "no code");
+    check_text("operation 0", speltmallet_operation_name(SPELTMALLET_OP_YIELD), "Yield");
+    check_text("operation 9", speltmallet_operation_name(SPELTMALLET_OP_SEND_FROM_INTERRUPT), "Send from interrupt");
+    check_text("operation 11", speltmallet_operation_name(SPELTMALLET_OP_MAKE), "Make semaphore");
+    check_text("operation 16", speltmallet_operation_name(SPELTMALLET_OP_POST_FROM_INTERRUPT), "Post from interrupt");
+    check_text("operation 20", speltmallet_operation_name(SPELTMALLET_OP_OUTCOME), "Outcome");
+    check_text("operation 21", speltmallet_operation_name(SPELTMALLET_OPERATIONS), "no operation");
+}
+
 int main(void) {
+    helpers();
     example_run();
     mail();
     refusals();

@@ -10,11 +10,12 @@
  * print to LINES (`-` for nowhere), and how many ticks each thread was charged to standard output. TICKS is how long it prints: 2,400
  * ticks unless it is given, at most 1,000,000.
  */
+#include <ctype.h>
 #include <stdio.h>
 #include <stdlib.h>
 #include <string.h>
 
-#include "../../include/speltmallet.h"
+#include <speltmallet.h>
 
 /* The firmware's threads, by number; thread 0 is the kernel's own Init, which runs when nobody else is ready. */
 enum { INIT, LEFT, RIGHT, CUTTER, FEED, THREADS };
@@ -31,13 +32,13 @@ enum {
     TICKS_PER_LINE = 5, /* of a lane's own time */
     TICKS_PER_MOVE = 1,
     TICKS_PER_CUT = 3,
-    CUT_EVERY = 40 /* ticks between two tickets */
+    CUT_EVERY = 40, /* ticks between two tickets */
+    MOST_TICKS = 1000000 /* of a simulation */
 };
 
 /* The printer: the kernel's table, what each thread does, and what is counted. */
 struct printer {
     uint8_t table[SPELTMALLET_TABLE_BYTES];
-    uint8_t answer[SPELTMALLET_ANSWER_BYTES];
     FILE *requests;
     FILE *lines;
     long asked; /* requests so far */
@@ -53,45 +54,80 @@ static void stop(const char *what, const char *about)
     exit(1);
 }
 
-static unsigned long word(const uint8_t *at)
+/*
+ * The guard around the door, to be filled in: one call at a time for a table. On bare metal the first keeps the processor's flags and
+ * forbids interrupts, the second puts the flags back (docs/FIRMWARE.md has both for x86-64). In this simulation no interrupt comes by
+ * itself, and there is nothing to do.
+ */
+typedef unsigned long interrupt_state;
+
+static interrupt_state forbid_interrupts(void)
 {
-    return at[0] | (unsigned long)at[1] << 8 | (unsigned long)at[2] << 16 | (unsigned long)at[3] << 24;
+    return 0;
+}
+
+static void restore_interrupts(interrupt_state before)
+{
+    (void)before;
+}
+
+/*
+ * The context switch, to be filled in: it saves the registers and the stack pointer of `from`, takes up those of `to`, and returns when
+ * the kernel says that `from` runs again. From an interrupt it is the last thing before the return. In this simulation the threads have
+ * no stacks, and `run` goes on with the running thread.
+ */
+static void switch_context(int from, int to)
+{
+    (void)from;
+    (void)to;
 }
 
 static int running(const struct printer *p)
 {
-    return p->table[SPELTMALLET_KERNEL + SPELTMALLET_KERNEL_RUNNING];
+    return speltmallet_running(p->table);
 }
 
-/* One request: the code, with the value in the answer area. */
-static int32_t ask(struct printer *p, int operation, int object, int priority, unsigned long number, unsigned long data)
+/* Keeps what is asked, for `./speltmallet trace`; before the call, so that the last record is there whatever happens in it. */
+static void record(struct printer *p, const uint8_t *request)
+{
+    if (fwrite(request, SPELTMALLET_REQUEST_BYTES, 1, p->requests) != 1)
+        stop("the requests can't be written", "");
+}
+
+/* Puts one request, and gives its code. The answer area is the call's own: another thread's call does not write over it. */
+static int32_t ask(struct printer *p, uint8_t operation, uint8_t object, uint8_t priority, uint32_t number, uint32_t data)
 {
     uint8_t request[SPELTMALLET_REQUEST_BYTES];
+    uint8_t answer[SPELTMALLET_ANSWER_BYTES];
+    interrupt_state before;
     int32_t code;
-    int k;
+    int caller;
 
-    memset(request, 0, sizeof request);
-    request[SPELTMALLET_REQUEST_OPERATION] = (uint8_t)operation;
-    request[SPELTMALLET_REQUEST_OBJECT] = (uint8_t)object;
-    request[SPELTMALLET_REQUEST_PRIORITY] = (uint8_t)priority;
-    for (k = 0; k < 4; k++) {
-        request[SPELTMALLET_REQUEST_NUMBER + k] = (uint8_t)(number >> 8 * k & 255);
-        request[SPELTMALLET_REQUEST_DATA + k] = (uint8_t)(data >> 8 * k & 255);
-    }
-    code = speltmallet_door(p->table, sizeof p->table, request, sizeof request, p->answer, sizeof p->answer);
-    if (fwrite(request, sizeof request, 1, p->requests) != 1)
-        stop("the requests can't be written", "");
+    speltmallet_request(request, operation, object, priority, number, data);
+    before = forbid_interrupts();
+    caller = running(p);
+    record(p, request);
+    code = speltmallet_door(p->table, sizeof p->table, request, sizeof request, answer, sizeof answer);
+    if (code == SPELTMALLET_BAD_TABLE)
+        stop("the kernel's table is damaged", "");
     if (p->lines != NULL)
-        fprintf(p->lines, "%ld %ld %lu %d\n", p->asked, (long)code, word(p->answer + SPELTMALLET_ANSWER_VALUE), running(p));
+        fprintf(p->lines, "%ld %ld %lu %d\n", p->asked, (long)code, (unsigned long)speltmallet_value(answer), running(p));
     p->asked++;
+    if (running(p) != caller)
+        switch_context(caller, running(p));
+    restore_interrupts(before);
     return code;
 }
 
 /* A request that this firmware knows to be accepted. */
-static void must(struct printer *p, int operation, int object, int priority, unsigned long number, unsigned long data)
+static void must(struct printer *p, uint8_t operation, uint8_t object, uint8_t priority, uint32_t number, uint32_t data)
 {
-    if (ask(p, operation, object, priority, number, data) < 0)
-        stop("the kernel refuses a request that the firmware relies on", "");
+    int32_t code = ask(p, operation, object, priority, number, data);
+
+    if (code < 0) {
+        fprintf(stderr, "printer: the kernel answers %s with %s\n", speltmallet_operation_name(operation), speltmallet_code_name(code));
+        exit(1);
+    }
 }
 
 /* The running thread goes on until it needs a tick of time: it makes the requests that it makes at this point of its work. */
@@ -114,7 +150,7 @@ static void run(struct printer *p)
             break;
         default: /* a lane has a line ready: tell the feed, and begin the next */
             p->printed[me]++;
-            must(p, SPELTMALLET_OP_SEND, FEED, 0, SPELTMALLET_FOREVER, (unsigned long)(me << 24 | p->printed[me]));
+            must(p, SPELTMALLET_OP_SEND, FEED, 0, SPELTMALLET_FOREVER, (uint32_t)me << 24 | (uint32_t)p->printed[me]);
             p->work[me] = TICKS_PER_LINE;
             break;
         }
@@ -138,9 +174,7 @@ static void tick(struct printer *p, long now)
 
 static void start(struct printer *p)
 {
-    static const uint8_t fresh[SPELTMALLET_TABLE_BYTES] = SPELTMALLET_FRESH;
-
-    memcpy(p->table, fresh, sizeof p->table);
+    speltmallet_reset(p->table);
     must(p, SPELTMALLET_OP_MAKE, CUT, 0, 0, 0);
     must(p, SPELTMALLET_OP_LOCK, 0, 0, 0, 0); /* nobody runs before all are there */
     must(p, SPELTMALLET_OP_CREATE, LEFT, LANE_PRIORITY, LANE_TURN, 0);
@@ -162,6 +196,17 @@ static FILE *opened(const char *path)
     return file;
 }
 
+/* The number of ticks that a word names: digits and nothing else. */
+static long ticks_of(const char *word)
+{
+    char *end;
+    unsigned long ticks = strtoul(word, &end, 10);
+
+    if (!isdigit((unsigned char)word[0]) || *end != '\0' || ticks < 1 || ticks > MOST_TICKS)
+        stop("TICKS is a number from 1 to 1000000, and not ", word);
+    return (long)ticks;
+}
+
 int main(int argc, char **argv)
 {
     static struct printer p;
@@ -171,9 +216,7 @@ int main(int argc, char **argv)
     if (argc < 2 || argc > 4)
         stop("usage: printer REQUESTS [LINES [TICKS]]", "");
     if (argc == 4)
-        ticks = strtol(argv[3], NULL, 10);
-    if (ticks < 1 || ticks > 1000000)
-        stop("TICKS is a number from 1 to 1000000, and not ", argv[3]);
+        ticks = ticks_of(argv[3]);
     p.requests = opened(argv[1]);
     if (argc > 2 && strcmp(argv[2], "-") != 0)
         p.lines = opened(argv[2]);
