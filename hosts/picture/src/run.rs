@@ -1,0 +1,102 @@
+//! A run: what happens at each request, counted as demand 3 counts it, and held to the figures that the file states.
+
+use model::{code, fresh, operation as op, sound, THREADS};
+
+use crate::doors::{Board, SentBack};
+use crate::incident::{Claim, Incident, Record, Rule, FILE, RANK};
+
+/// What happens at a request.
+#[derive(Clone, Debug)]
+pub struct Step {
+    pub request: Record,
+    /// Who runs after it.
+    pub running: usize,
+    /// "An accepted tick is charged to the thread that was running, to nobody while the lock is on; a refused one to nobody."
+    pub charged: Option<usize>,
+    pub sent_back: Option<SentBack>,
+}
+
+impl Step {
+    pub fn is_tick(&self) -> bool {
+        self.request[0] == op::TICK
+    }
+}
+
+/// The ready set of the lanes' rank.
+fn ready(board: &Board) -> Vec<usize> {
+    (0..THREADS).filter(|&i| board.is_ready(i, RANK)).collect()
+}
+
+/// The table at the start of every run.
+fn lanes(incident: &Incident) -> Result<Board, String> {
+    let mut board = Board {
+        table: fresh(),
+        rule: Rule::Rules,
+    };
+    for request in &incident.lanes {
+        let (answer, _) = board.ask(request);
+        if answer != code::DONE && answer != code::BLOCKED {
+            return Err(format!(
+                "{FILE}: a request of `lanes` is refused with {answer}"
+            ));
+        }
+    }
+    Ok(board)
+}
+
+/// The steps of a claim's run, if what it states is what is counted.
+pub fn run(incident: &Incident, claim: &Claim) -> Result<Vec<Step>, String> {
+    let name = &claim.name;
+    let mut board = Board {
+        rule: claim.rule,
+        ..lanes(incident)?
+    };
+    let set = ready(&board);
+    if set != [incident.left, incident.right] {
+        return Err(format!(
+            "{FILE}: the lanes are ready at rank {RANK}, and the model has {set:?} ready there"
+        ));
+    }
+    let mut steps = Vec::new();
+    for request in &claim.requests {
+        let (was, is_locked) = (board.running(), board.lock() > 0);
+        let (answer, sent_back) = board.ask(request);
+        let is_charged = request[0] == op::TICK && answer == code::DONE && !is_locked;
+        if !sound(&board.table) || ready(&board) != set {
+            return Err(format!(
+                "{FILE}: in `{name}` the table is not sound or the ready set not the same after step {}",
+                steps.len()
+            ));
+        }
+        steps.push(Step {
+            request: *request,
+            running: board.running(),
+            charged: is_charged.then_some(was),
+            sent_back,
+        });
+    }
+    let part = steps.get(claim.from..claim.from + claim.steps);
+    let part = part.ok_or(format!(
+        "{FILE}: `{name}` counts more steps than its run has, {}",
+        steps.len()
+    ))?;
+    let to = |thread: usize| charged(part, |i| i == thread);
+    let counted = (
+        charged(part, |i| set.contains(&i)),
+        to(incident.left),
+        to(incident.right),
+    );
+    let stated = (claim.charged, claim.left, claim.right);
+    match counted == stated {
+        true => Ok(steps),
+        false => Err(format!(
+            "{FILE}: `{name}` states {stated:?} as the ticks charged to the rank, the left and the right lane, and the model counts {counted:?}"
+        )),
+    }
+}
+
+/// How many steps are ticks that are charged to such a thread.
+pub fn charged(steps: &[Step], is_such: impl Fn(usize) -> bool) -> usize {
+    let charged = steps.iter().filter_map(|step| step.charged);
+    charged.filter(|&thread| is_such(thread)).count()
+}
