@@ -5,7 +5,7 @@ use std::fmt::Write;
 
 use model::{operation as op, word};
 
-use crate::incident::Incident;
+use crate::incident::{Incident, FILE};
 use crate::run::{charged, Step};
 
 const WIDTH: usize = 940;
@@ -15,6 +15,8 @@ const START: usize = 168;
 const TICK: usize = 46;
 const CUT: usize = 18;
 const ROW: usize = 44;
+/// Where the first panel begins.
+const TOP: usize = 84;
 /// A panel: its heading, three rows, and the ticks' numbers.
 const HEADING: usize = 22;
 const PANEL: usize = HEADING + 3 * ROW + 24;
@@ -27,13 +29,8 @@ struct Row {
     fill: &'static str,
 }
 
-/// A panel: a run, and what is said above it.
-struct Panel<'a> {
-    heading: &'a str,
-    steps: &'a [Step],
-}
-
 /// An SVG file as it grows.
+#[derive(Default)]
 struct Sheet {
     text: String,
 }
@@ -91,11 +88,11 @@ fn columns(cutter: usize, steps: &[Step]) -> Vec<usize> {
     columns
 }
 
-/// A panel whose heading's top is at `top`.
-fn panel(sheet: &mut Sheet, rows: &[Row; 3], panel: &Panel, top: usize) {
+/// A panel, which begins at `top`: what is said above it, and a run.
+fn panel(sheet: &mut Sheet, rows: &[Row; 3], heading: &str, steps: &[Step], top: usize) {
     let look = r#"font-size="16" font-weight="bold""#;
-    sheet.words((20, top + 14), look, panel.heading);
-    let columns = columns(rows[0].thread, panel.steps);
+    sheet.words((20, top + 14), look, heading);
+    let columns = columns(rows[0].thread, steps);
     let end = columns[columns.len() - 1];
     let first = top + HEADING;
     let y = |row: usize| first + row * ROW;
@@ -111,12 +108,12 @@ fn panel(sheet: &mut Sheet, rows: &[Row; 3], panel: &Panel, top: usize) {
         sheet.words((START - 12, middle - 2), name, row.name);
         let prints = r#"font-size="13" text-anchor="end""#;
         sheet.words((START - 12, middle + 14), prints, row.prints);
-        let has = charged(panel.steps, |thread| thread == row.thread);
+        let has = charged(steps, |thread| thread == row.thread);
         let total = r#"font-size="20" font-weight="bold""#;
         sheet.words((end + 16, middle + 7), total, &format!("{has} ticks"));
     }
-    events(sheet, rows, panel.steps, &columns, first);
-    ticks(sheet, panel.steps, &columns, y(3) + 17);
+    events(sheet, rows, steps, &columns, first);
+    ticks(sheet, steps, &columns, y(3) + 17);
 }
 
 /// What happens in a panel whose first row is at `first`.
@@ -188,51 +185,59 @@ fn turn(incident: &Incident, thread: usize) -> Option<u32> {
     of.next().map(|request| word(request, 4))
 }
 
-/// The picture of the same requests under the rules and under the rule of the incident.
-pub fn draw(incident: &Incident, ruled: &[Step], behind: &[Step]) -> Result<String, String> {
+/// The rows, from above.
+fn rows(incident: &Incident) -> [Row; 3] {
+    let row = |thread, name, prints, fill| Row {
+        thread,
+        name,
+        prints,
+        fill,
+    };
+    [
+        row(incident.cutter, "Cutter", "", "#000"),
+        row(incident.left, "Left lane", "odd seats", "#0072b2"),
+        row(incident.right, "Right lane", "even seats", "#f0c65a"),
+    ]
+}
+
+/// What the picture says, in one sentence on two lines, and what it says of a turn.
+fn says(incident: &Incident, ruled: &[Step], behind: &[Step]) -> Result<[String; 3], String> {
     let has = |steps: &[Step], lane: usize| charged(steps, |thread| thread == lane);
     let (left, right) = (incident.left, incident.right);
-    let all = charged(ruled, |_| true);
-    let due = has(ruled, left);
-    let turns = turn(incident, left);
-    if due != has(ruled, right)
-        || turns != turn(incident, right)
-        || all != charged(behind, |_| true)
-    {
-        return Err("the title says that the lanes have equal turns and, by the rules, equal ticks, and they do not: mend hosts/picture/src/draw.rs".to_string());
-    }
-    let rows = [
-        Row {
-            thread: incident.cutter,
-            name: "Cutter",
-            prints: "",
-            fill: "#000",
-        },
-        Row {
-            thread: left,
-            name: "Left lane",
-            prints: "odd seats",
-            fill: "#0072b2",
-        },
-        Row {
-            thread: right,
-            name: "Right lane",
-            prints: "even seats",
-            fill: "#f0c65a",
-        },
-    ];
-    let first = format!(
-        "When the cutter breaks in, these rules still give each lane {due} of {all} ticks;"
-    );
-    let second = format!(
-        "the rule of the incident gives the left lane {} and the right lane {}.",
-        has(behind, left),
-        has(behind, right)
-    );
-    let mut sheet = Sheet {
-        text: String::new(),
+    let (due, all) = (has(ruled, left), charged(ruled, |_| true));
+    let (late, early) = (has(behind, left), has(behind, right));
+    let turn = match (turn(incident, left), turn(incident, right)) {
+        (Some(turn), Some(other)) if turn == other => turn,
+        turns => {
+            return Err(format!(
+                "{FILE}: the lanes' turns are {turns:?}, and the picture is of equal turns"
+            ))
+        }
     };
-    sheet.line("<!-- hosts/picture/draw draws this from crates/promises/specs/Incident.antt -->");
+    if [has(ruled, right), all - due] != [due, due] || late + early != all {
+        return Err(format!(
+            "{FILE}: the title is of all ticks charged to two lanes and, by the rules, half of them to each; \
+             mend hosts/picture/src/draw.rs"
+        ));
+    }
+    Ok([
+        format!("When the cutter breaks in, these rules still give each lane {due} of {all} ticks;"),
+        format!("the rule of the incident gives the left lane {late} and the right lane {early}."),
+        format!(
+            "A turn is {turn} ticks for either lane. The requests are the same in both runs, and both counts are proved \
+             (Incident.antt: ruled, behind)."
+        ),
+    ])
+}
+
+/// The picture of the same requests under the rules and under the rule of the incident.
+pub fn draw(incident: &Incident, ruled: &[Step], behind: &[Step]) -> Result<String, String> {
+    let rows = rows(incident);
+    let [first, second, foot] = says(incident, ruled, behind)?;
+    let mut sheet = Sheet::default();
+    sheet.line(&format!(
+        "<!-- hosts/picture/draw draws this from {FILE} -->"
+    ));
     sheet.line(&format!(
         r#"<svg xmlns="http://www.w3.org/2000/svg" viewBox="0 0 {WIDTH} {HEIGHT}" width="{WIDTH}" height="{HEIGHT}" role="img" font-family="sans-serif">"#
     ));
@@ -242,28 +247,10 @@ pub fn draw(incident: &Incident, ruled: &[Step], behind: &[Step]) -> Result<Stri
     sheet.words((20, 34), look, &first);
     sheet.words((20, 60), look, &second);
     let heading = "Under these rules: a broken-off lane goes on with the rest of its turn";
-    panel(
-        &mut sheet,
-        &rows,
-        &Panel {
-            heading,
-            steps: ruled,
-        },
-        84,
-    );
+    panel(&mut sheet, &rows, heading, ruled, TOP);
     let heading = "Under the rule of the incident: a broken-off lane goes to the back, the rest of its turn is gone";
-    panel(
-        &mut sheet,
-        &rows,
-        &Panel {
-            heading,
-            steps: behind,
-        },
-        84 + PANEL + 16,
-    );
+    panel(&mut sheet, &rows, heading, behind, TOP + PANEL + 16);
     legend(&mut sheet, &rows, HEIGHT - 76);
-    let turn = turns.unwrap_or(0);
-    let foot = format!("A turn is {turn} ticks for either lane. The requests are the same in both runs, and both counts are proved (Incident.antt: ruled, behind).");
     sheet.words((20, HEIGHT - 14), r#"font-size="13""#, &foot);
     sheet.line("</svg>");
     Ok(sheet.text)

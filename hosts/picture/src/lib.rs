@@ -5,6 +5,8 @@ pub mod doors;
 pub mod draw;
 pub mod incident;
 pub mod run;
+mod source;
+mod words;
 
 use std::fs;
 use std::path::{Path, PathBuf};
