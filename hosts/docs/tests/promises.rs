@@ -198,6 +198,7 @@ fn every_path_that_a_document_names_is_there() {
         ("README.md", ""),
         ("docs/BENCH.md", "docs"),
         ("docs/DECISIONS.md", "crates/rules/specs"),
+        ("docs/READING.md", "crates/promises/specs"),
         ("examples/README.md", "examples"),
     ] {
         for piece in pieces(&text(document)) {
