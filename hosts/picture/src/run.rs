@@ -44,48 +44,53 @@ fn lanes(incident: &Incident) -> Result<Board, String> {
     Ok(board)
 }
 
-/// The steps of a claim's run, if what it states is what is counted.
-pub fn run(incident: &Incident, claim: &Claim) -> Result<Vec<Step>, String> {
-    let name = &claim.name;
+/// Puts a request to the board, and notes what happens.
+fn step(board: &mut Board, request: &Record) -> Step {
+    let (was, is_locked) = (board.running(), board.lock() > 0);
+    let (answer, sent_back) = board.ask(request);
+    let is_charged = request[0] == op::TICK && answer == code::DONE && !is_locked;
+    Step {
+        request: *request,
+        running: board.running(),
+        charged: is_charged.then_some(was),
+        sent_back,
+    }
+}
+
+/// The steps of a claim's run. The table stays sound, and the lanes are the ready set of their rank after each step.
+fn steps(incident: &Incident, claim: &Claim) -> Result<Vec<Step>, String> {
     let mut board = Board {
         rule: claim.rule,
         ..lanes(incident)?
     };
-    let set = ready(&board);
-    if set != [incident.left, incident.right] {
-        return Err(format!(
-            "{FILE}: the lanes are ready at rank {RANK}, and the model has {set:?} ready there"
-        ));
-    }
     let mut steps = Vec::new();
     for request in &claim.requests {
-        let (was, is_locked) = (board.running(), board.lock() > 0);
-        let (answer, sent_back) = board.ask(request);
-        let is_charged = request[0] == op::TICK && answer == code::DONE && !is_locked;
-        if !sound(&board.table) || ready(&board) != set {
+        steps.push(step(&mut board, request));
+        let set = ready(&board);
+        if !sound(&board.table) || set != [incident.left, incident.right] {
             return Err(format!(
-                "{FILE}: in `{name}` the table is not sound or the ready set not the same after step {}",
-                steps.len()
+                "{FILE}: after {} requests of `{}` the table is not sound, or others than the lanes are ready at rank {RANK}: {set:?}",
+                steps.len(),
+                claim.name
             ));
         }
-        steps.push(Step {
-            request: *request,
-            running: board.running(),
-            charged: is_charged.then_some(was),
-            sent_back,
-        });
     }
+    Ok(steps)
+}
+
+/// The steps of a claim's run, if what it states is what is counted.
+pub fn run(incident: &Incident, claim: &Claim) -> Result<Vec<Step>, String> {
+    let name = &claim.name;
+    let steps = steps(incident, claim)?;
     let part = steps.get(claim.from..claim.from + claim.steps);
     let part = part.ok_or(format!(
         "{FILE}: `{name}` counts more steps than its run has, {}",
         steps.len()
     ))?;
-    let to = |thread: usize| charged(part, |i| i == thread);
-    let counted = (
-        charged(part, |i| set.contains(&i)),
-        to(incident.left),
-        to(incident.right),
-    );
+    let to = |lane: usize| charged(part, |thread| thread == lane);
+    let (left, right) = (to(incident.left), to(incident.right));
+    // the rank's ready set is the two lanes
+    let counted = (left + right, left, right);
     let stated = (claim.charged, claim.left, claim.right);
     match counted == stated {
         true => Ok(steps),
