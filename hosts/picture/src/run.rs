@@ -57,23 +57,29 @@ fn step(board: &mut Board, request: &Record) -> Step {
     }
 }
 
-/// The steps of a claim's run. The table stays sound, and the lanes are the ready set of their rank after each step.
+/// The table is sound, and the lanes are the ready set of their rank, after this many requests of the claim's run.
+fn keeps(incident: &Incident, claim: &Claim, board: &Board, after: usize) -> Result<(), String> {
+    let set = ready(board);
+    match sound(&board.table) && set == [incident.left, incident.right] {
+        true => Ok(()),
+        false => Err(format!(
+            "{FILE}: after {after} requests of `{}` the table is not sound, or others than the lanes are ready at rank {RANK}: {set:?}",
+            claim.name
+        )),
+    }
+}
+
+/// The steps of a claim's run.
 fn steps(incident: &Incident, claim: &Claim) -> Result<Vec<Step>, String> {
     let mut board = Board {
         rule: claim.rule,
         ..lanes(incident)?
     };
     let mut steps = Vec::new();
+    keeps(incident, claim, &board, 0)?;
     for request in &claim.requests {
         steps.push(step(&mut board, request));
-        let set = ready(&board);
-        if !sound(&board.table) || set != [incident.left, incident.right] {
-            return Err(format!(
-                "{FILE}: after {} requests of `{}` the table is not sound, or others than the lanes are ready at rank {RANK}: {set:?}",
-                steps.len(),
-                claim.name
-            ));
-        }
+        keeps(incident, claim, &board, steps.len())?;
     }
     Ok(steps)
 }

@@ -70,6 +70,12 @@ fn a_file_of_another_shape_is_refused_with_what_differs() {
             "(cutAfterTick 4) 0",
             "a number is expected where `≡` stands",
         ),
+        // a lane that is not in the rank
+        (
+            "Create right 5 2",
+            "Create right 4 2",
+            "others than the lanes are ready at rank 5: [1]",
+        ),
         // names that are gone
         ("pub behind", "pub late", "no field `behind`"),
         (
