@@ -199,6 +199,7 @@ fn every_path_that_a_document_names_is_there() {
         ("docs/BENCH.md", "docs"),
         ("docs/DECISIONS.md", "crates/rules/specs"),
         ("docs/FIRMWARE.md", "docs"),
+        ("docs/READING.md", "crates/promises/specs"),
         ("examples/README.md", "examples"),
     ] {
         for piece in pieces(&text(document)) {
