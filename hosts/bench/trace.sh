@@ -26,7 +26,7 @@ records=$(($(stat -c %s "$room/requests") / 12))
 
 # PROGRAM: the least processor time of three runs, in milliseconds
 least() {
-  local best= user system
+  local best='' user system
   for _ in 1 2 3; do
     TIMEFORMAT='%U %S'
     read -r user system < <({ time ../x86_64 run "$1" <"$room/requests" >/dev/null; } 2>&1)
@@ -37,7 +37,8 @@ least() {
 }
 door=$(least "$room/serve")
 traced=$(least "$trace")
-where=$(../x86_64 emulated && echo ', both under the emulator' || true)
+where=''
+if ../x86_64 emulated; then where=', both under the emulator'; fi
 awk "BEGIN {
   ratio = $traced / $door
   printf \"%d records%s: the door alone %d ms, the trace program %d ms, %.2f times; at most 1.5: %s\n\", $records, \"$where\", $door, $traced, ratio, ratio <= 1.5 ? \"OK\" : \"OVER\"

@@ -3,6 +3,7 @@
 //! of stack. `-- --strict` fails also where the door is slower than its budget, and `-- --stack`
 //! measures the stack alone.
 
+mod budget;
 mod cases;
 mod measure;
 mod size;

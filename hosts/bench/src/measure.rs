@@ -26,30 +26,23 @@ impl Pair {
 
 /// The sum over several groups.
 pub fn sum(pairs: impl Iterator<Item = Pair>) -> Pair {
-    pairs.fold(
-        Pair {
-            door: 0.,
-            plain: 0.,
-        },
-        |sum, pair| Pair {
-            door: sum.door + pair.door,
-            plain: sum.plain + pair.plain,
-        },
-    )
+    joined(pairs, |a, b| a + b)
 }
 
 /// The larger figures of several groups.
 pub fn most(pairs: impl Iterator<Item = Pair>) -> Pair {
-    pairs.fold(
-        Pair {
-            door: 0.,
-            plain: 0.,
-        },
-        |most, pair| Pair {
-            door: most.door.max(pair.door),
-            plain: most.plain.max(pair.plain),
-        },
-    )
+    joined(pairs, f64::max)
+}
+
+fn joined(pairs: impl Iterator<Item = Pair>, join: fn(f64, f64) -> f64) -> Pair {
+    let none = Pair {
+        door: 0.,
+        plain: 0.,
+    };
+    pairs.fold(none, |all, pair| Pair {
+        door: join(all.door, pair.door),
+        plain: join(all.plain, pair.plain),
+    })
 }
 
 /// Whether the program runs under an emulator, so that its times say nothing.

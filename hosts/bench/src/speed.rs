@@ -2,17 +2,12 @@
 
 use model::{operation as op, Rng};
 
+use crate::budget::Budget;
 use crate::cases::{accepted, Group};
 use crate::measure::{steps, sum, time, Pair};
 use crate::worst::worst;
 
-/// How many times the plain kernel's instructions the door may take, and how many it aims at.
-struct Budget {
-    most: f64,
-    aim: f64,
-}
-
-/// Over all operations, and for any one call.
+/// How many times the plain kernel's instructions the door may take: over all operations, and for any one call.
 const OVERALL: Budget = Budget {
     most: 0.85,
     aim: 0.75,
@@ -21,20 +16,6 @@ const ANY: Budget = Budget {
     most: 1.2,
     aim: 1.0,
 };
-
-impl Budget {
-    fn holds(&self, ratio: f64) -> bool {
-        ratio <= self.most
-    }
-
-    fn verdict(&self, ratio: f64) -> &'static str {
-        match ratio {
-            ratio if ratio <= self.aim => "OK, within the aim",
-            ratio if self.holds(ratio) => "OK, above the aim",
-            _ => "OVER",
-        }
-    }
-}
 
 /// Calls of a group that are timed, and that are counted instruction by instruction.
 const TIMED: usize = 32;

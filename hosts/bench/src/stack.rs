@@ -3,13 +3,16 @@
 
 use model::Rng;
 
+use crate::budget::Budget;
 use crate::cases::any;
 use crate::measure::{most, stack, steps};
 use crate::worst::worst;
 
-/// The cutter's interrupt has so many bytes in all.
-const BUDGET: f64 = 512.;
-const AIM: f64 = 256.;
+/// The cutter's interrupt has 512 bytes in all.
+const BYTES: Budget = Budget {
+    most: 512.,
+    aim: 256.,
+};
 
 /// Prints the table; gives whether the door is within its budget.
 pub fn report() -> bool {
@@ -35,11 +38,7 @@ pub fn report() -> bool {
         "| **the most of all** | **{}** | **{}** |\n",
         all.door, all.plain
     );
-    let verdict = match all.door {
-        used if used <= AIM => "OK, within the aim",
-        used if used <= BUDGET => "OK, above the aim",
-        _ => "OVER",
-    };
-    println!("Budget {BUDGET} bytes, aim {AIM}: {verdict}.\n");
-    all.door <= BUDGET
+    let (verdict, Budget { most, aim }) = (BYTES.verdict(all.door), BYTES);
+    println!("Budget {most} bytes, aim {aim}: {verdict}.\n");
+    BYTES.holds(all.door)
 }

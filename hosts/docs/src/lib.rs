@@ -1,9 +1,10 @@
 //! What the tests over the documents share. They hold docs/, README.md and crates.txt to the sources: `names` finds what a file
-//! declares and what a document names, `layers` draws README's picture of the crates, `public` finds the functions that a crate lets
-//! another one call.
+//! declares and what a document names, `paths` the files and folders among it and where links lead, `layers` draws README's picture of
+//! the crates, `public` finds the functions that a crate lets another one call.
 
 pub mod layers;
 pub mod names;
+pub mod paths;
 pub mod public;
 
 use std::fs;

@@ -1,5 +1,5 @@
 //! Everything that docs/PROMISES.md and the readings of docs/DECISIONS.md name between back quotes is there: files, folders,
-//! statements, proofs, functions, must-fail edits. Of the other documents the files and folders are.
+//! statements, proofs, functions, must-fail edits. `links.rs` reads the paths of every document.
 //!
 //! A path is one from the top, from crates/, or from the folder of the path before it. In a cell of a table a name is declared in the
 //! file before it, or in the crate before it where that has a colon behind it; a semicolon ends that. In a paragraph only the names
@@ -11,6 +11,7 @@ use std::sync::OnceLock;
 
 use docs::layers::crates;
 use docs::names::{declared, pieces, Piece, Quoted};
+use docs::paths::{find, is_path};
 use docs::{files, text, top};
 
 /// Words of Rattle and of C that crates/ does not declare.
@@ -30,25 +31,6 @@ fn sources() -> &'static BTreeMap<PathBuf, BTreeSet<String>> {
         let all = files("crates", &[".rt", ".antt"]).into_iter();
         all.map(|path| (path.clone(), declared(&path))).collect()
     })
-}
-
-fn is_path(name: &str) -> bool {
-    let endings = [
-        ".antt", ".rt", ".rs", ".edit", ".md", ".c", ".h", ".sh", ".txt",
-    ];
-    !name.contains(' ') && (name.contains('/') || endings.iter().any(|end| name.ends_with(end)))
-}
-
-/// The file or folder that a path names. NAME stands for any crate, and so does a path that begins inside of one.
-fn find(path: &str, folder: Option<&Path>) -> Option<PathBuf> {
-    let path = path.strip_prefix("./").unwrap_or(path);
-    let mut places = vec![PathBuf::from(path), Path::new("crates").join(path)];
-    places.extend(folder.map(|folder| folder.join(path)));
-    for part in crates() {
-        places.push(PathBuf::from(path.replace("NAME", &part.name)));
-        places.push(Path::new("crates").join(&part.name).join(path));
-    }
-    places.into_iter().find(|place| top().join(place).exists())
 }
 
 /// Is the name at this place the head of a list, as both are in "`canon`, `places`: all"?
@@ -188,35 +170,4 @@ fn everything_that_the_readings_name_is_there() {
         .split_once("## How the rules are written")
         .expect("docs/DECISIONS.md has the readings first");
     check("docs/DECISIONS.md", readings, &["short", "N"]);
-}
-
-#[test]
-fn every_path_that_a_document_names_is_there() {
-    let mut faults = Vec::new();
-    // a document, and the folder of the files that it names by their names alone
-    for (document, home) in [
-        ("README.md", ""),
-        ("docs/BENCH.md", "docs"),
-        ("docs/DECISIONS.md", "crates/rules/specs"),
-        ("docs/FIRMWARE.md", "docs"),
-        ("docs/READING.md", "crates/promises/specs"),
-        ("examples/README.md", "examples"),
-    ] {
-        for piece in pieces(&text(document)) {
-            let mut folder = PathBuf::from(home);
-            // what is built is not there yet
-            let paths = piece.quoted.iter().filter(|quoted| is_path(&quoted.name));
-            for quoted in paths.filter(|quoted| !quoted.name.starts_with("target/")) {
-                match find(&quoted.name, Some(&folder)) {
-                    Some(path) if top().join(&path).is_dir() => folder = path,
-                    Some(_) => {}
-                    None => faults.push(format!(
-                        "{document}:{}: there is no file or folder `{}`",
-                        quoted.line, quoted.name
-                    )),
-                }
-            }
-        }
-    }
-    assert!(faults.is_empty(), "\n{}\n", faults.join("\n"));
 }

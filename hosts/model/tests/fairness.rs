@@ -39,6 +39,21 @@ struct Windows {
     broken_off: u32,
 }
 
+impl Windows {
+    fn add(&mut self, more: &Windows) {
+        self.checked += more.checked;
+        self.of_two_or_more += more.of_two_or_more;
+        self.broken_off += more.broken_off;
+    }
+
+    /// Fails where the runs have shown too little.
+    fn expect_enough(&self) {
+        println!("{self:?}");
+        assert!(self.of_two_or_more > 2_000, "{self:?}");
+        assert!(self.broken_off > 500, "{self:?}");
+    }
+}
+
 /// The ready threads of each rank, as bits.
 fn ready_sets(board: &Board) -> [u16; 32] {
     let mut sets = [0; 32];
@@ -154,13 +169,9 @@ fn runs_from_fresh_are_fair() {
             let mut watch = Watch::new(yields);
             let ticks = rng.pick(&[12, 24, 28, 30]);
             run(&mut watch, &mut rng, &mut Board::fresh(), 1_000, ticks);
-            windows.checked += watch.windows.checked;
-            windows.of_two_or_more += watch.windows.of_two_or_more;
-            windows.broken_off += watch.windows.broken_off;
+            windows.add(&watch.windows);
         }
-        println!("{windows:?}");
-        assert!(windows.of_two_or_more > 2_000, "{windows:?}");
-        assert!(windows.broken_off > 500, "{windows:?}");
+        windows.expect_enough();
     }
 }
 
@@ -174,13 +185,9 @@ fn runs_from_random_sound_tables_are_fair() {
             let mut watch = Watch::new(yields);
             let ticks = rng.pick(&[20, 26, 30, 31]);
             run(&mut watch, &mut rng, &mut Board { table }, 120, ticks);
-            windows.checked += watch.windows.checked;
-            windows.of_two_or_more += watch.windows.of_two_or_more;
-            windows.broken_off += watch.windows.broken_off;
+            windows.add(&watch.windows);
         }
-        println!("{windows:?}");
-        assert!(windows.of_two_or_more > 2_000, "{windows:?}");
-        assert!(windows.broken_off > 500, "{windows:?}");
+        windows.expect_enough();
     }
 }
 
