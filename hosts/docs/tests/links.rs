@@ -11,6 +11,7 @@ use docs::{text, top};
 fn home(document: &Path) -> PathBuf {
     match document.to_str() {
         Some("docs/DECISIONS.md") => PathBuf::from("crates/rules/specs"),
+        Some("docs/READING.md") => PathBuf::from("crates/promises/specs"),
         _ => document.parent().unwrap_or(Path::new("")).to_path_buf(),
     }
 }
