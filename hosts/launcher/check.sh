@@ -178,6 +178,17 @@ request_to_end_leaves_nothing() { signalled TERM 143; }
 
 hangup_leaves_nothing() { signalled HUP 129; }
 
+ctrl_c_on_a_terminal_leaves_nothing() {
+  anew
+  local status=0
+  { until_so test -s "$TRIED/pids" >&2 && printf '\003' && sleep 1; } | PAUSE=8 on_terminal "./speltmallet trace '$example'" || status=$?
+  [ "$status" -ne 77 ] || exit 77
+  [ "$status" -eq 130 ] || { echo "status $status, and not 130" && cat "$TRIED/shown" && return 1; }
+  # shellcheck disable=SC2046
+  gone $(cat "$TRIED/pids") || { echo "still at work: $(cat "$TRIED/pids")" && xargs kill -s TERM <"$TRIED/pids"; return 1; }
+  [ -z "$(find "$TMPDIR" -mindepth 1)" ] || { echo "left behind: $(find "$TMPDIR" -mindepth 1)" && return 1; }
+}
+
 two_starts_build_once() {
   anew
   export PAUSE=0.5
@@ -205,6 +216,18 @@ a_waiting_start_can_be_ended() {
   [ "$status" -eq 143 ] || { echo "status $status, and not 143" && return 1; }
   wait "$first"
   builds 1
+}
+
+a_build_without_its_launcher_is_waited_for() {
+  anew
+  export PAUSE=0.7
+  ./speltmallet trace "$example" >/dev/null 2>&1 &
+  until_so test -s "$TRIED/builds"
+  kill -s KILL "$!"
+  ran trace "$example"
+  has "another start is building here" "$TRIED/err"
+  [ "$status" -eq 0 ]
+  gone "$(head -n 1 "$TRIED/pids" | cut -d ' ' -f 1)" || { echo "the first build is still at work" && return 1; }
 }
 
 an_edit_during_a_build_is_built() {
@@ -319,6 +342,16 @@ a_closed_pipe_is_quiet() {
   status=${PIPESTATUS[1]}
   set -e
   ended 141 0
+}
+
+a_closed_pipe_is_said_where_its_signal_is_ignored() {
+  built
+  set +e
+  yes | timeout 10 env --ignore-signal=PIPE ./speltmallet trace 2>"$TRIED/err" | head -n 1 >"$TRIED/out"
+  status=${PIPESTATUS[1]}
+  set -e
+  ended 1 1
+  has "trace: standard output can't be written" "$TRIED/err"
 }
 
 lines_come_as_records_come() {
