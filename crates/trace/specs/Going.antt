@@ -1,6 +1,6 @@
 -- What all turns of the program come to. No contract says which bytes a read gives, so `seen` is some bytes, as many as the reads say; all
--- that follows from them is said. The run is promised for every table that it may begin with: what would begin anew after a read, drop what
--- came, or number a record by itself, meets it of no table that the records change.
+-- that follows from them is said. The run is promised for every table that it may begin with, so that one which takes a fresh table between
+-- two reads does not meet it, nor one which drops what came, forgets what is left over, or numbers a record by itself.
 use mathlib.Core.Path.{_≡_}
 use mathlib.Core.List.{List}
 use Prim.Native.Nat.{ℕ}
