@@ -37,7 +37,8 @@ extern "C" {
  *   number says so. It is tested before everything else.
  * - Every other refusal (-1 to -6, -8): the table stays byte for byte as it was, and the area holds the code and value 0.
  * - DONE (0) or BLOCKED (1): the table is the next one, and the area holds the code and the value. The value is 0 but for Receive
- *   (the mail), Pend (the units left) and Outcome (the parcel), where these are done.
+ *   (the mail), Pend (the units left) and Outcome (the parcel), where these are done, and for Send and Pend where they are blocked:
+ *   how many threads are ahead of the caller in the line that it now waits in, suspended ones among them.
  * - Outcome answers the thread's outcome as its code: 1, 0 and -5 are answers there and no refusals; the refusals are -1, -7, -8.
  *
  * The caller's duties, which the kernel cannot test:
@@ -135,7 +136,8 @@ int32_t speltmallet_door(uint8_t *table, size_t table_len, const uint8_t *reques
 #define SPELTMALLET_OP_CANCEL 7
 
 /* Send: object (thread), number (wait), data.
- * -1 thread above 15, or free; -5 to oneself, or mailbox full and the caller may not wait. */
+ * -1 thread above 15, or free; -5 to oneself, or mailbox full and the caller may not wait.
+ * The value is how many waiting senders to that thread are ahead, where it is blocked. */
 #define SPELTMALLET_OP_SEND 8
 
 /* Send from interrupt: object (thread), data.
@@ -155,7 +157,8 @@ int32_t speltmallet_door(uint8_t *table, size_t table_len, const uint8_t *reques
 #define SPELTMALLET_OP_DROP 12
 
 /* Pend: object (semaphore), number (wait).
- * -6 semaphore above 7, or free; -5 count 0 and the caller may not wait. */
+ * -6 semaphore above 7, or free; -5 count 0 and the caller may not wait.
+ * The value is the units left where it is done, and how many waiters on that semaphore are ahead where it is blocked. */
 #define SPELTMALLET_OP_PEND 13
 
 /* Abort, which ends a wait on a semaphore: object (thread).

@@ -27,20 +27,20 @@ pub fn code(a: Answer) -> i32
 {
     match a {
         Answer::Done { value: _ } => 0,
-        Answer::Blocked => 1,
+        Answer::Blocked { ahead: _ } => 1,
         Answer::NoneYet => 1,
         Answer::Failed => -5,
         Answer::Refused { why } => refusal_code(why),
     }
 }
 
-// An answer's value: 0 unless it is done.
+// An answer's value: 0 unless it is done or blocked.
 pub fn value(a: Answer) -> u32
     ensures { λ r. ⌜ r ≡ valueOf a ⌝ }
 {
     match a {
         Answer::Done { value } => value,
-        Answer::Blocked => 0,
+        Answer::Blocked { ahead } => ahead,
         Answer::NoneYet => 0,
         Answer::Failed => 0,
         Answer::Refused { why: _ } => 0,

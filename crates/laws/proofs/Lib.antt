@@ -9,6 +9,7 @@ pub mod Lines
 pub mod Members
 pub mod Moves
 pub mod Placed
+pub mod Ahead
 pub mod Places
 pub mod Records
 pub mod Tested

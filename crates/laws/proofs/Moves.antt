@@ -15,7 +15,7 @@ use Rattle.rules.specs.State.{free, at, edit, withPlace}
 use Rattle.rules.specs.Lines.{Line, line, inLine, lineLength, moveUp, leave, filled, tailPlace, join, move}
 use Rattle.rules.specs.declared.Thread.{Thread}
 use Rattle.laws.proofs.Split.{is, isnt, test, clash, if-case}
-use Rattle.laws.proofs.Lines.{same-nowhere}
+use Rattle.laws.proofs.Lines.{same-nowhere, filled-field}
 use Rattle.laws.proofs.Members.{edit-same, edit-other, length-edit, map-at}
 
 pub length-leave : (i : ℕ) (ts : List Thread) → length (leave i ts) ≡ length ts
@@ -81,6 +81,10 @@ join-other i j ts h = edit-other ts i j (λ t. filled (withPlace (tailPlace i ts
 join-self : (i : ℕ) (ts : List Thread) → i < length ts → at (join i ts) i ≡ filled (withPlace (tailPlace i ts) (at ts i))
 unfolding join
 join-self i ts h = edit-same ts i (λ t. filled (withPlace (tailPlace i ts) t)) h
+
+-- the place that is taken
+pub join-place : (i : ℕ) (ts : List Thread) → i < length ts → at (join i ts) i .place ≡ tailPlace i ts
+join-place i ts h = ap (λ t. t .place) (join-self i ts h) ∙ filled-field (λ t. t .place) (withPlace (tailPlace i ts) (at ts i)) refl
 
 -- MOVE
 

@@ -79,6 +79,11 @@ module _ (ts : List Thread) (λs : Lines ts) (i : ℕ) (i< : i < length ts) (g :
   unfolding us new
   move-count l = counts l
 
+  -- the one that joins takes the place behind all who stand there
+  pub move-place : at (move i g ts) i .place ≡ lineLength (line (g (withPlace 0 (at ts i)))) (move i g ts)
+  unfolding us new
+  move-place = self-place
+
   -- a thread of a line other than i: at 1 or more, and at most the number of the line's others
   bounds : (l : Line) (j : ℕ) → j ≢ i → inLine l (at ts j) ≡ true → (1 ≤ gone j .place) × (gone j .place + bit (inLine l (at ts i)) ≤ lineLength l ts)
   unfolding gone

@@ -11,7 +11,7 @@ use Rattle.rules.specs.Basic.{if_then_else_}
 use Rattle.rules.specs.Board.{topPriority, mostTicks}
 use Rattle.rules.specs.State.{State, caller, withThreads}
 use Rattle.rules.specs.Lines.{move, settle}
-use Rattle.rules.specs.Waiting.{Step, begun, block, mayNotWait, neverWait, waitCounter, mustWait}
+use Rattle.rules.specs.Waiting.{Step, begun, ahead, block, mayNotWait, neverWait, waitCounter, mustWait}
 use Rattle.rules.specs.Threads.{badPriority, badTicks, bound}
 use Rattle.rules.specs.Sound.{Sound}
 use Rattle.rules.specs.declared.Thread.{Thread}
@@ -63,7 +63,7 @@ module _ (s : State) (σ : Sound s) where
 
   pub safe-block : (w : Wait) (x : ℕ) → mayNotWait s ≡ false → Begins (asks s) (s .running) (caller s) w x → Safe (block s w x)
   unfolding block
-  safe-block w x e g = safe-threads s _ Blocked σ (blocks w x e g)
+  safe-block w x e g = safe-threads s _ (Blocked (ahead s w)) σ (blocks w x e g)
 
   pub safe-wait : (n : ℕ) (w : ℕ → Wait) (x : ℕ) → ((c : ℕ) → c ≤ mostTicks → Begins (asks s) (s .running) (caller s) (w c) x) → Safe (mustWait s n w x)
   unfolding mustWait

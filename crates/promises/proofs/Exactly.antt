@@ -35,7 +35,7 @@ below (negsuc n) = n
 mild : (a : Answer) → (refusalIn a ≡ some BadTable → ⊥) → (refusalIn a ≡ some BadRecord → ⊥) → below (codeOf a) ≤ 5
 unfolding below
 mild (Done v) h k = omega arith
-mild Blocked h k = omega arith
+mild (Blocked v) h k = omega arith
 mild NoneYet h k = omega arith
 mild Failed h k = omega arith
 mild (Refused BadThread) h k = omega arith

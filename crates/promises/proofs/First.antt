@@ -37,7 +37,7 @@ use Rattle.promises.proofs.Exactly.{not-7, not-8}
 -- an answer that is a refusal
 refusal-is : (a : Answer) (why : Refusal) → refusalIn a ≡ some why → a ≡ Refused why
 refusal-is (Done v) why e = let z : _≡_ {A = ℕ} 0 1 = cc in absurd (omega arith)
-refusal-is Blocked why e = let z : _≡_ {A = ℕ} 0 1 = cc in absurd (omega arith)
+refusal-is (Blocked v) why e = let z : _≡_ {A = ℕ} 0 1 = cc in absurd (omega arith)
 refusal-is NoneYet why e = let z : _≡_ {A = ℕ} 0 1 = cc in absurd (omega arith)
 refusal-is Failed why e = let z : _≡_ {A = ℕ} 0 1 = cc in absurd (omega arith)
 refusal-is (Refused w) why e = cc

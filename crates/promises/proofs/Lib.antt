@@ -1,6 +1,7 @@
 pub mod Refused
 pub mod Malformed
 pub mod Exactly
+pub mod Ahead
 pub mod First
 pub mod Second
 pub mod Third

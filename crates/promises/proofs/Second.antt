@@ -2,14 +2,16 @@
 -- a state and its table determine each other. Assumes nothing.
 use mathlib.Core.Bool.{_&&_}
 use mathlib.Core.Path.{_≡_, refl, ap, sym, _∙_}
-use mathlib.Core.List.{List, [], _∷_}
+use mathlib.Core.List.{List, [], _∷_, _++_}
 use Prim.Native.Nat.{ℕ}
+use native.Mathlib.Omega.{arith}
 use lib.Dec.{eqb}
-use lib.ListN.{length}
+use lib.IntN.{pos, negsuc}
+use lib.ListN.{length, getD}
 use Rattle.rules.specs.Board.{Board, printer}
 use Rattle.rules.specs.State.{State, On}
-use Rattle.rules.specs.Table.{encode, decode}
-use Rattle.rules.specs.Answers.{areaLength}
+use Rattle.rules.specs.Table.{wordBytes, encode, decode}
+use Rattle.rules.specs.Answers.{areaLength, areaOf}
 use Rattle.rules.specs.Requests.{decodeRequest}
 use Rattle.rules.specs.Sound.{Sound, SoundTable}
 use Rattle.rules.specs.Test.{soundTable}
@@ -24,7 +26,10 @@ use Rattle.layout.proofs.Records.{length-encode}
 use Rattle.layout.proofs.RoundTrip.{on-decode, decode-encode}
 use Rattle.preservation.proofs.Frame.{on-kept, running-kept}
 use Rattle.preservation.proofs.Steps.{kept}
+use Rattle.request.proofs.Trips.{fields-read}
+use Rattle.promises.specs.Ahead.{aheadOf}
 use Rattle.promises.specs.Demand2.{RunsFirst, Ruled, Demand2}
+use Rattle.promises.proofs.Ahead.{tells}
 use Rattle.promises.proofs.First.{served}
 
 -- the table of a sound state is sound
@@ -63,6 +68,22 @@ module _ (b : Board) (t : List ℕ) (σ : SoundTable b t) where
       let d : decode b _ ≡ step (decode b t) q .state = ap (decode b) e ∙ decode-encode (after-on q) in
       ap (λ s. s .running) d ∙ running-kept (decode b t) q (λ z. h (ap (λ s. s .lock) d ∙ z))
 
+  -- beside code 1, which only a request that is served can have
+  served-tells : (r : List ℕ) (d : Decoded) → decodeRequest r ≡ d → serveDecoded b t d .code ≡ pos 1
+      → serveDecoded b t d .area ≡ wordBytes 1 ++ wordBytes (aheadOf b t (getD r 0 0) (getD r 1 0))
+  unfolding serveDecoded areaOf
+  served-tells r Bad e k = let z : _≡_ {A = ℕ} 0 1 = cc in absurd (omega arith)
+  served-tells r (Asked q) e k =
+      let f = fields-read r q e in
+      rw (k, tells b t σ q .value k, f)
+
+  pub door-tells : (r a : List ℕ) → door b t r a .code ≡ pos 1 → door b t r a .area ≡ wordBytes 1 ++ wordBytes (aheadOf b t (getD r 0 0) (getD r 1 0))
+  unfolding door
+  door-tells r a k = elim (test (eqb (length a) areaLength && soundTable b t)) [
+    | is e ↦ rw e (served-tells r (decodeRequest r) refl (rw e at k))
+    | isnt e ↦ let c : negsuc 6 ≡ pos 1 = rw e at k in let z : _≡_ {A = ℕ} 0 1 = cc in absurd (omega arith)
+  ]
+
 runs-first : (s : State) → Sound s → s .lock ≡ 0 → RunsFirst s
 runs-first s σ z = record { ready = σ .runs; first = σ .leads z; highest = σ .highest z }
 
@@ -73,6 +94,7 @@ ruled b t r a σ =
     let u = after-sound b t σ n in
     record {
       byRule = λ e q k. served b t r a σ e ∙ rw k;
+      ahead = door-tells b t σ r a;
       sound = u;
       unlocked = runs-first (decode b (door b t r a .table)) (u .state);
       locked = after-locked b t σ n;

@@ -3,12 +3,13 @@
 -- The rules are the definitions of crate `rules`; the kernel's code is proved to give what they say. Here is what they then keep true.
 use mathlib.Core.Bool.{true}
 use mathlib.Core.Path.{_≡_}
-use mathlib.Core.List.{List}
+use mathlib.Core.List.{List, _++_}
 use Prim.Native.Nat.{ℕ, _≤_}
-use lib.ListN.{length}
+use lib.IntN.{pos}
+use lib.ListN.{length, getD}
 use Rattle.rules.specs.Board.{Board, printer}
 use Rattle.rules.specs.State.{State, at, caller, isReady}
-use Rattle.rules.specs.Table.{encode, decode}
+use Rattle.rules.specs.Table.{wordBytes, encode, decode}
 use Rattle.rules.specs.Answers.{areaLength}
 use Rattle.rules.specs.Requests.{decodeRequest}
 use Rattle.rules.specs.Sound.{SoundTable}
@@ -16,6 +17,7 @@ use Rattle.rules.specs.Steps.{step}
 use Rattle.rules.specs.Door.{Doored, answered, door, freshTable, Handed, tableAfter}
 use Rattle.rules.specs.declared.Request.{Request}
 use Rattle.rules.specs.declared.Decoded.the-variants.{Asked}
+use Rattle.promises.specs.Ahead.{aheadOf}
 
 -- "the running thread is the first of the highest non-empty line"
 pub record RunsFirst (s : State) : Type 0 where
@@ -28,6 +30,9 @@ pub record Ruled (b : Board) (t r a : List ℕ) (d : Doored) : Type 0 where
   -- the answer and the next table are those of the request's rule,
   pub byRule : length a ≡ areaLength → (q : Request) → decodeRequest r ≡ Asked q
       → d ≡ answered (encode (step (decode b t) q .state)) (step (decode b t) q .answer)
+  -- order 1: "A Send or Pend that answers 1 now gives as its value the number of threads already in that line", by the bytes of table and
+  -- record; "Delay and Receive keep value 0", and so does an outcome that is 1,
+  pub ahead : d .code ≡ pos 1 → d .area ≡ wordBytes 1 ++ wordBytes (aheadOf b t (getD r 0 0) (getD r 1 0))
   -- the next table is sound again,
   pub sound : SoundTable b (d .table)
   -- "with lock 0, the running thread is the first of the highest non-empty line;"

@@ -1,6 +1,7 @@
 -- What is promised, for an auditor to read with document 01 beside it.
 pub mod Refusals
 pub mod Malformed
+pub mod Ahead
 pub mod Demand1
 pub mod Demand2
 pub mod Demand3

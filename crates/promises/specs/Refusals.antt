@@ -185,7 +185,7 @@ refusal s q = firstGiven s q (order q)
 -- the refusal that an answer is
 abbrev pub refusalIn : Answer → Option Refusal
 refusalIn (Done v) = none
-refusalIn Blocked = none
+refusalIn (Blocked v) = none
 refusalIn NoneYet = none
 refusalIn Failed = none
 refusalIn (Refused why) = some why

@@ -95,13 +95,18 @@ module _ (o p n d : ℕ) where
       let e = numbered-at asked said operations 0 operation operation u (omega arith) every (k .there) in
       rw (only-kept (u .object) o (k .object), only-kept (u .priority) p (k .priority), only-kept (u .number) n (k .number), only-kept (u .parcel) d (k .parcel)) at e
 
+-- the fields of the request that a record asks are the record's
+pub fields-read : (r : List ℕ) (q : Request) → decodeRequest r ≡ Asked q → fieldsOf q ≡ (getD r 0 0, getD r 1 0, getD r 2 0, wordAt r 4, wordAt r 8)
+fields-read r q e =
+    let x = parts-of r q e in
+    let same : q ≡ made x = cc (parts-asked r x) in
+    ap fieldsOf same ∙ fields-made (getD r 1 0) (getD r 2 0) (wordAt r 4) (wordAt r 8) (getD r 0 0) (x .fields)
+
 written-back : (r : List ℕ) → Bytes r → (q : Request) → decodeRequest r ≡ Asked q → written q ≡ r
 unfolding written
 written-back r byte q e =
     let x = parts-of r q e in
-    let same : q ≡ made x = cc (parts-asked r x) in
-    let fields = fields-made (getD r 1 0) (getD r 2 0) (wordAt r 4) (wordAt r 8) (getD r 0 0) (x .fields) in
-    ap written same ∙ ap (λ (f : Fields). recordBytes (f .0) (f .1) (f .2) (f .3) (f .4)) fields ∙ sym (record-made r byte (x .long) (x .zeroed))
+    ap (λ (f : Fields). recordBytes (f .0) (f .1) (f .2) (f .3) (f .4)) (fields-read r q e) ∙ sym (record-made r byte (x .long) (x .zeroed))
 
 pub trips : Trips
 trips = record { there = decode-written; back = written-back }

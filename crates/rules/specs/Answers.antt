@@ -22,15 +22,15 @@ refusalCode BadRecord = negsuc 7
 -- "Code 0 is done and 1 is blocked." "Outcome: code is the outcome": 1 none yet, −5 failed.
 abbrev pub codeOf : Answer → ℤ
 codeOf (Done v) = pos 0
-codeOf Blocked = pos 1
+codeOf (Blocked v) = pos 1
 codeOf NoneYet = pos 1
 codeOf Failed = negsuc 4
 codeOf (Refused why) = refusalCode why
 
--- "Value is 0 unless named."
+-- "Value is 0 unless named." Order 1 names that of a call which answers 1.
 abbrev pub valueOf : Answer → ℕ
 valueOf (Done v) = v
-valueOf Blocked = 0
+valueOf (Blocked v) = v
 valueOf NoneYet = 0
 valueOf Failed = 0
 valueOf (Refused why) = 0

@@ -1,5 +1,5 @@
--- Document 01's example run and its twelve proved cases, in one table: what is asked from a fresh table, through bytes and the door,
--- what the trace then says line by line, and what some bytes of the table hold afterwards.
+-- Document 01's example run and its twelve proved cases, and cases of the orders, in one table: what is asked from a fresh table, through
+-- bytes and the door, what the trace then says line by line, and what some bytes of the table hold afterwards.
 use mathlib.Core.Path.{_≡_}
 use mathlib.Core.List.{List, [], _∷_, _++_, map}
 use Prim.Native.Nat.{ℕ, zero, suc, pred, _+_, _*_}
@@ -71,8 +71,12 @@ gives v r = record { code = pos 0; value = v; running = r }
 abbrev done : ℕ → Seen
 done r = gives 0 r
 
+-- blocked, with n threads ahead
+abbrev behind : ℕ → ℕ → Seen
+behind n r = record { code = pos 1; value = n; running = r }
+
 abbrev blocked : ℕ → Seen
-blocked r = record { code = pos 1; value = 0; running = r }
+blocked r = behind 0 r
 
 -- −k: a refusal, or an outcome that failed
 abbrev minus : ℕ → ℕ → Seen
@@ -127,11 +131,11 @@ table =
     -- "(7) a priority 3 waiter that came first is served before a priority 9 one"
     ∷ case
     (make 0 0 ∷ create 1 3 5 ∷ pend 0 100000 ∷ create 2 9 5 ∷ pend 0 100000 ∷ post 0 1 ∷ outcome 1 ∷ outcome 2 ∷ post 0 1 ∷ outcome 2 ∷ [])
-    (done 0 ∷ done 1 ∷ blocked 0 ∷ done 2 ∷ blocked 0 ∷ done 1 ∷ done 1 ∷ blocked 1 ∷ done 2 ∷ done 2 ∷ [])
+    (done 0 ∷ done 1 ∷ blocked 0 ∷ done 2 ∷ behind 1 0 ∷ done 1 ∷ done 1 ∷ blocked 1 ∷ done 2 ∷ done 2 ∷ [])
     -- "(8) Delete with two waiting senders: both −5"
     ∷ case
     (create 1 5 5 ∷ create 2 7 5 ∷ create 3 8 5 ∷ send 1 0 40 ∷ send 1 100000 41 ∷ send 1 100000 42 ∷ delete 1 ∷ outcome 2 ∷ outcome 3 ∷ [])
-    (done 1 ∷ done 2 ∷ done 3 ∷ done 3 ∷ blocked 2 ∷ blocked 1 ∷ done 3 ∷ minus 5 3 ∷ minus 5 3 ∷ [])
+    (done 1 ∷ done 2 ∷ done 3 ∷ done 3 ∷ blocked 2 ∷ behind 1 1 ∷ done 3 ∷ minus 5 3 ∷ minus 5 3 ∷ [])
     -- "(9) Post serves a suspended waiter: outcome 0, not ready": suspended, no wait, place 0
     ∷ caseHolding
     (make 0 0 ∷ create 1 5 5 ∷ pend 0 100000 ∷ suspend 1 ∷ post 0 1 ∷ outcome 1 ∷ [])
@@ -151,7 +155,7 @@ table =
     -- what the twelve leave open. A timed-out waiter is out of its line, and the next unit goes to the waiter behind it
     ∷ case
     (make 0 0 ∷ create 1 5 5 ∷ pend 0 1 ∷ create 2 9 5 ∷ pend 0 100000 ∷ tick ∷ outcome 1 ∷ post 0 1 ∷ outcome 2 ∷ [])
-    (done 0 ∷ done 1 ∷ blocked 0 ∷ done 2 ∷ blocked 0 ∷ done 1 ∷ minus 5 1 ∷ done 2 ∷ done 2 ∷ [])
+    (done 0 ∷ done 1 ∷ blocked 0 ∷ done 2 ∷ behind 1 0 ∷ done 1 ∷ minus 5 1 ∷ done 2 ∷ done 2 ∷ [])
     -- "Pend: with count above 0 takes one and the value is what is left"
     ∷ case (make 0 2 ∷ pend 0 0 ∷ pend 0 0 ∷ pend 0 0 ∷ []) (done 0 ∷ gives 1 0 ∷ done 0 ∷ minus 5 0 ∷ [])
     -- turns go round a second time as the first
@@ -161,7 +165,24 @@ table =
     -- Receive gives the mailbox's value, then those of the waiting senders in line order: priority 7 came first, priority 9 second
     ∷ case
     (create 1 5 5 ∷ create 2 7 5 ∷ send 1 0 40 ∷ send 1 100000 41 ∷ create 3 9 5 ∷ send 1 100000 42 ∷ receive 0 ∷ outcome 3 ∷ suspend 2 ∷ receive 0 ∷ [])
-    (done 1 ∷ done 2 ∷ done 2 ∷ blocked 1 ∷ done 3 ∷ blocked 1 ∷ gives 40 2 ∷ blocked 2 ∷ done 1 ∷ gives 41 3 ∷ [])
+    (done 1 ∷ done 2 ∷ done 2 ∷ blocked 1 ∷ done 3 ∷ behind 1 1 ∷ gives 40 2 ∷ blocked 2 ∷ done 1 ∷ gives 41 3 ∷ [])
+    -- order 1: "the number of threads already in that line". Three wait, the second of them suspended: the fourth comer gets 3. The first is
+    -- served, and comes again: 3 again
+    ∷ case
+    (make 0 0 ∷ create 1 5 5 ∷ pend 0 100000 ∷ create 2 5 5 ∷ pend 0 100000 ∷ create 3 5 5 ∷ pend 0 100000 ∷ suspend 2 ∷ create 4 5 5 ∷ pend 0 100000 ∷ post 0 1 ∷ pend 0 9 ∷ [])
+    (done 0 ∷ done 1 ∷ blocked 0 ∷ done 2 ∷ behind 1 0 ∷ done 3 ∷ behind 2 0 ∷ done 0 ∷ done 4 ∷ behind 3 0 ∷ done 1 ∷ behind 3 0 ∷ [])
+    -- the same of senders to the mailbox of thread 1
+    ∷ case
+    (create 1 5 5 ∷ create 2 7 5 ∷ send 1 0 40 ∷ send 1 100000 41 ∷ create 3 7 5 ∷ send 1 100000 42 ∷ create 4 7 5 ∷ send 1 100000 43 ∷ suspend 3 ∷ create 5 7 5 ∷ send 1 100000 44 ∷ receive 0 ∷ send 1 9 45 ∷ [])
+    (done 1 ∷ done 2 ∷ done 2 ∷ blocked 1 ∷ done 3 ∷ behind 1 1 ∷ done 4 ∷ behind 2 1 ∷ done 1 ∷ done 5 ∷ behind 3 1 ∷ gives 40 2 ∷ behind 3 1 ∷ [])
+    -- "Delay and Receive keep value 0", whoever else is in a delay or receives; and an outcome that is 1 keeps it
+    ∷ case
+    (create 1 5 5 ∷ delay 9 ∷ create 2 5 5 ∷ delay 9 ∷ create 3 5 5 ∷ receive 9 ∷ create 4 5 5 ∷ receive 9 ∷ outcome 2 ∷ [])
+    (done 1 ∷ blocked 0 ∷ done 2 ∷ blocked 0 ∷ done 3 ∷ blocked 0 ∷ done 4 ∷ blocked 0 ∷ blocked 0 ∷ [])
+    -- a line is its object's own: waiters on semaphore 1 and on semaphore 2, and senders to thread 1, are three lines
+    ∷ case
+    (make 1 0 ∷ make 2 0 ∷ create 1 5 5 ∷ pend 1 9 ∷ create 2 5 5 ∷ pend 2 9 ∷ create 3 5 5 ∷ send 1 0 40 ∷ send 1 9 41 ∷ create 4 5 5 ∷ pend 2 9 ∷ outcome 4 ∷ [])
+    (done 0 ∷ done 0 ∷ done 1 ∷ blocked 0 ∷ done 2 ∷ blocked 0 ∷ done 3 ∷ done 3 ∷ blocked 0 ∷ done 4 ∷ behind 1 0 ∷ blocked 0 ∷ [])
     ∷ []
 
 -- WHAT IS GIVEN, WHAT IS EXPECTED

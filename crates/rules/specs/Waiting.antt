@@ -5,8 +5,8 @@ use Prim.Native.Nat.{ℕ, zero, suc}
 use lib.Dec.{eqb, ltb}
 use Rattle.rules.specs.Basic.{if_then_else_}
 use Rattle.rules.specs.Board.{mostTicks}
-use Rattle.rules.specs.State.{State, withWait, withOutcome, withThreads}
-use Rattle.rules.specs.Lines.{Line, first, move, settle}
+use Rattle.rules.specs.State.{State, caller, withWait, withOutcome, withThreads}
+use Rattle.rules.specs.Lines.{Line, line, lineLength, first, move, settle}
 use Rattle.rules.specs.declared.Thread.{Thread}
 use Rattle.rules.specs.declared.Wait.{Wait}
 use Rattle.rules.specs.declared.Wait.the-variants.{Nothing}
@@ -55,9 +55,14 @@ serve (suc n) l o ts = serve n l o (endWait (first l ts) o 0 ts)
 abbrev pub begun : Wait → ℕ → Thread → Thread
 begun w x t = withOutcome NoneYet x (withWait w t)
 
+-- order 1: "A Send or Pend that answers 1 now gives as its value the number of threads already in that line. [..] Delay and Receive keep
+-- value 0." The line is the one that the caller stands in once it waits; in a delay or a receive it is none, and nobody stands in it.
+abbrev pub ahead : State → Wait → ℕ
+ahead s w = lineLength (line (withWait w (caller s))) (s .threads)
+
 -- "Otherwise it leaves its ready line, joins its line's tail (a delay or receive has none), counter becomes the number [..], answer 1."
 unfoldable pub block : State → Wait → ℕ → Step
-block s w x = record { state = settle (withThreads (move (s .running) (begun w x) (s .threads)) s); answer = Blocked }
+block s w x = record { state = settle (withThreads (move (s .running) (begun w x) (s .threads)) s); answer = Blocked (ahead s w) }
 
 -- Init, or a caller under lock, never waits
 abbrev pub mayNotWait : State → Bool

@@ -146,10 +146,11 @@ pub enum Refusal {
     BadRecord,
 }
 
-// What is answered. `NoneYet` and `Failed` answer an Outcome that is 1 or −5: they are no refusals.
+// What is answered. `Blocked` says how many stand in the line ahead of the caller. `NoneYet` and `Failed` answer an Outcome that is 1 or −5:
+// they are no refusals.
 pub enum Answer {
     Done { value: u32 },
-    Blocked,
+    Blocked { ahead: u32 },
     NoneYet,
     Failed,
     Refused { why: Refusal },

@@ -66,11 +66,11 @@ each = record {
   sound-sound = λ κs a z z′ ws ws′ h p q. (p ∙ sym q, refl);
   -- waiting
   waiting-accept = λ κs a z z′ ws ws′ h p q. let d = does-one h p q in (d .1, first (d .0));
-  waiting-block = λ κs a z z′ ws ws′ h p q. let d = does-one (h .whole) p q in (d .1, first (d .0));
+  waiting-block = λ κs a z z′ ws ws′ h p q. let d = does-one (h .1 .whole) p q in (d .1, first (d .0));
   waiting-break-off = λ κs a z z′ ws ws′ h p q. let d = does-one (h .whole) p q in (d .1, first (d .0));
   waiting-end-wait = λ κs a z z′ ws ws′ h p q. (refl, first (becomes-one (h .1) p q));
   waiting-may-not-wait = λ κs a z z′ ws ws′ h p q. (p _ refl ∙ sym (q _ refl), refl);
-  waiting-must-wait = λ κs a z z′ ws ws′ h p q. let d = does-one (h .whole) (p (λ n. a .1 .1 .0) refl) (q (λ n. a .1 .1 .0) refl) in (d .1, first (d .0));
+  waiting-must-wait = λ κs a z z′ ws ws′ h p q. let d = does-one (h .1 .whole) (p (λ n. a .1 .1 .0) refl) (q (λ n. a .1 .1 .0) refl) in (d .1, first (d .0));
   waiting-no-thread = λ κs a z z′ ws ws′ h p q. (p _ refl ∙ sym (q _ refl), refl);
   waiting-serve = λ κs a z z′ ws ws′ h p q. let l = numbered (a .1 .1 .0) in (refl, first (becomes-one h (p (l .0) (l .1)) (q (l .0) (l .1))));
   waiting-wait-counter = λ κs a z z′ ws ws′ h p q. (p ∙ sym q, refl);

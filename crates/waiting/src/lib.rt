@@ -2,11 +2,12 @@
 //
 // `Becomes` says of a rule that a table that held a state now holds what the rule makes of it; `Does` says the same of an operation's
 // rule, and that the answer is the rule's too.
+ghost use mathlib.Core.Bool.{true};
 ghost use mathlib.Core.Path.{_≡_};
-ghost use Prim.Native.Nat.{ℕ, _<_};
+ghost use Prim.Native.Nat.{ℕ, pred, _<_};
 ghost use lib.ListN.{length};
 ghost use Rattle.rules.specs.Board.{printer, tableLength};
-ghost use Rattle.rules.specs.State.{State, withWait, withOutcome};
+ghost use Rattle.rules.specs.State.{State, at, waiting, withWait, withOutcome};
 ghost use Rattle.rules.specs.Table.{decode};
 ghost use Rattle.rules.specs.Lines.{Line, move};
 ghost use Rattle.rules.specs.Waiting.{accept, endWait, serve, block, mayNotWait, waitCounter, mustWait};
@@ -35,15 +36,17 @@ pub fn accept(t: &mut [u8], value: u32) -> Answer
 
 // A WAIT ENDS
 
-// Thread `i` leaves its line, its wait becomes `w` with that outcome and parcel, and it joins the line that it then belongs to.
-fn change_wait(t: &mut [u8], i: usize, w: Wait, outcome: Outcome, parcel: u32)
+// Thread `i` leaves its line, its wait becomes `w` with that outcome and parcel, and it joins the line that it then belongs to. The place
+// that it has there is given back.
+fn change_wait(t: &mut [u8], i: usize, w: Wait, outcome: Outcome, parcel: u32) -> u8
     requires { ⌜ (i < printer .threads) × Whole printer (now t) ⌝ }
-    ensures { λ _. ⌜ Becomes printer (now (t .entry)) (now (t .exit)) (onThreads (move i (λ x. withOutcome outcome parcel (withWait w x)))) ⌝ }
+    ensures place { λ r. ⌜ ((s : State) → decode printer (now (t .exit)) ≡ s → r ≡ at (s .threads) i .place) ⌝ }
+    ensures table { λ _. ⌜ Becomes printer (now (t .entry)) (now (t .exit)) (onThreads (move i (λ x. withOutcome outcome parcel (withWait w x)))) ⌝ }
 {
     lines::leave(t, i);
     records::set_wait(t, i, w);
     records::set_outcome(t, i, outcome, parcel);
-    lines::join(t, i);
+    lines::join(t, i)
 }
 
 // The wait of thread `i` ends: it leaves its line, and enters its ready line if it is not suspended.
@@ -114,15 +117,24 @@ pub fn may_not_wait(t: &[u8]) -> bool
     records::lock(t) > 0
 }
 
-// The caller waits: it leaves its ready line and joins the tail of its wait's line.
+// How many stand ahead of a place in a line; nobody where there is no line, and so no place.
+fn ahead_of(place: u8) -> u32
+    ensures { λ r. ⌜ r ≡ pred place ⌝ }
+{
+    if place == 0 { 0 } else { (place - 1) as u32 }
+}
+
+// The caller waits: it leaves its ready line and joins the tail of its wait's line. The answer says how many are ahead of it there.
 pub fn block(t: &mut [u8], w: Wait, parcel: u32) -> Answer
-    requires { ⌜ Serves printer (now t) ⌝ }
+    requires { ⌜ (waiting w ≡ true) × Serves printer (now t) ⌝ }
     ensures { λ r. ⌜ Does printer (now (t .entry)) (now (t .exit)) r (λ s. block s w parcel) ⌝ }
 {
     let i = records::running(t);
-    change_wait(t, i, w, Outcome::NoneYet, parcel);
+    let place = change_wait(t, i, w, Outcome::NoneYet, parcel);
     lines::settle(t);
-    Answer::Blocked
+    Answer::Blocked {
+        ahead: ahead_of(place),
+    }
 }
 
 // What a wait number leaves on the counter: 0 where the wait has no end.
@@ -134,7 +146,7 @@ pub fn wait_counter(n: u32) -> u32
 
 // A call that must wait by wait number `n`: `w` is the wait, with the counter that the number leaves.
 pub fn must_wait(t: &mut [u8], n: u32, w: Wait, parcel: u32) -> Answer
-    requires { ⌜ Serves printer (now t) ⌝ }
+    requires { ⌜ (waiting w ≡ true) × Serves printer (now t) ⌝ }
     ensures { λ r. ⌜ ((kind : ℕ → Wait) → w ≡ kind (waitCounter n) → Does printer (now (t .entry)) (now (t .exit)) r (λ s. mustWait s n kind parcel)) ⌝ }
 {
     if n == 0 {

@@ -13,6 +13,14 @@ pub const SORTS: &[&str] = &[
     "send begins, endless",
     "semaphore begins, timed",
     "semaphore begins, endless",
+    "delay begins, several before it",
+    "delay begins, a suspended one before it",
+    "receive begins, several before it",
+    "receive begins, a suspended one before it",
+    "send begins, several before it",
+    "send begins, a suspended one before it",
+    "semaphore begins, several before it",
+    "semaphore begins, a suspended one before it",
     "delay ended by time",
     "delay ended by time, suspended",
     "delay ended by Cancel",
@@ -134,6 +142,7 @@ fn see_wait(before: View, op: u8, after: View, i: usize, see: &mut dyn FnMut(&st
             "timed"
         };
         see(&format!("{} begins, {limit}", KINDS[usize::from(is)]));
+        see_before(before, after.wait(i), see);
         return false;
     }
     let suspended = if before.suspended(i) {
@@ -143,6 +152,18 @@ fn see_wait(before: View, op: u8, after: View, i: usize, see: &mut dyn FnMut(&st
     };
     see(&format!("{kind} ended by {}{suspended}", cause(op)));
     true
+}
+
+/// Who has a wait already when another thread begins it.
+fn see_before(before: View, wait: (u8, u8), see: &mut dyn FnMut(&str)) {
+    let kind = KINDS[usize::from(wait.0)];
+    if before.waiting(wait) > 1 {
+        see(&format!("{kind} begins, several before it"));
+    }
+    let waits = |i: &usize| before.in_use(*i) && before.wait(*i) == wait;
+    if (0..THREADS).filter(waits).any(|i| before.suspended(i)) {
+        see(&format!("{kind} begins, a suspended one before it"));
+    }
 }
 
 /// What becomes of the running thread.

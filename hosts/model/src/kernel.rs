@@ -142,11 +142,16 @@ impl Kernel {
         }
     }
 
-    /// Thread `i` joins the tail of the line that its state says, if it says one.
-    pub fn join_line(&mut self, i: usize) {
-        if let Some(line) = self.line_of(i) {
-            self.line_mut(line).push_back(i);
-        }
+    /// Thread `i` joins the tail of the line that its state says, if it says one. Gives "the number
+    /// of threads already in that line" (order 1); 0 where there is none.
+    pub fn join_line(&mut self, i: usize) -> usize {
+        let Some(line) = self.line_of(i) else {
+            return 0;
+        };
+        let members = self.line_mut(line);
+        let already = members.len();
+        members.push_back(i);
+        already
     }
 
     /// "Entering the ready line is at the tail with counter = turn."
@@ -175,7 +180,8 @@ impl Kernel {
     /// "A call that must wait answers −5 if its number is 0, the caller is Init or the lock is
     /// on. Otherwise it leaves its ready line, joins its line's tail (a delay or receive has
     /// none), counter becomes the number (forever 0), outcome 1, parcel 0 (for a send, the data),
-    /// answer 1."
+    /// answer 1." Order 1: "A Send or Pend that answers 1 now gives as its value the number of
+    /// threads already in that line. [..] Delay and Receive keep value 0."
     pub fn must_wait(&mut self, wait: Wait, number: u32, parcel: u32) -> Reply {
         let caller = self.running;
         if number == 0 || caller == INIT || self.locked() {
@@ -187,10 +193,10 @@ impl Kernel {
         thread.counter = if number >= FOREVER { 0 } else { number };
         thread.outcome = outcome::NONE_YET;
         thread.parcel = parcel;
-        self.join_line(caller);
+        let already = self.join_line(caller);
         Ok(Answer {
             code: code::BLOCKED,
-            value: 0,
+            value: already as u32,
         })
     }
 

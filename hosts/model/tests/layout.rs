@@ -88,7 +88,7 @@ fn a_busy_table_byte_for_byte() {
     board.done(create(4, 31, 0x0001_0203));
     board.blocked(pend(7, 0x0001_0405));
     board.done(create(5, 31, 99_999));
-    board.blocked(pend(7, 100_000));
+    board.behind(pend(7, 100_000), 1);
     board.done(suspend(5));
     board.done(create(15, 30, 1));
     board.done(interrupt_send(15, 0xF1E2_D3C4));

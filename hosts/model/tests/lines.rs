@@ -49,9 +49,9 @@ fn leaving_a_ready_line_closes_the_gap() {
 fn four_waiters() -> Board {
     let mut board = Board::fresh();
     board.done(make(0, 0));
-    for (i, number) in [(2, 2), (3, 100_000), (4, 1), (5, 9)] {
-        board.done(create(i, 5, 3));
-        board.blocked(pend(0, number));
+    for (ahead, number) in (0u8..).zip([2, 100_000, 1, 9]) {
+        board.done(create(2 + ahead, 5, 3));
+        board.behind(pend(0, number), ahead.into());
     }
     assert_eq!(board.places([2, 3, 4, 5]), [1, 2, 3, 4]);
     board

@@ -79,7 +79,7 @@ fn an_interrupt_sends_to_the_running_thread() {
 #[test]
 fn a_send_to_a_full_mailbox_waits_at_the_tail() {
     let mut board = busy();
-    board.blocked(send(2, 5, 11));
+    board.behind(send(2, 5, 11), 1);
     let seen = board.seen(1);
     assert_eq!((seen.wait, seen.place), ((wait::SEND, 2), 2));
     assert_eq!((seen.counter, seen.parcel, seen.outcome), (5, 11, 1));
@@ -93,7 +93,7 @@ fn a_send_to_a_full_mailbox_waits_at_the_tail() {
 #[test]
 fn receive_takes_the_mail_and_lets_the_first_sender_in() {
     let mut board = busy();
-    board.blocked(send(2, 5, 11));
+    board.behind(send(2, 5, 11), 1);
     assert_eq!(board.running(), 2);
     let before = board.clone();
     board.done(lock());
@@ -168,7 +168,7 @@ fn a_full_mailbox_of_value_0_is_full() {
 #[test]
 fn a_sender_that_times_out_is_passed_over() {
     let mut board = busy();
-    board.blocked(send(2, 1, 11));
+    board.behind(send(2, 1, 11), 1);
     board.done(set(6, 31, 7));
     board.ticks(1);
     board.expect(outcome_of(1), (-5, 0));

@@ -101,7 +101,7 @@ fn case_7_the_first_waiter_is_served_first() {
         board.done(create(1, first, 3));
         board.blocked(pend(0, 100_000));
         board.done(create(2, second, 3));
-        board.blocked(pend(0, 100_000));
+        board.behind(pend(0, 100_000), 1);
         board.done(post(0, 1));
         board.expect(outcome_of(1), (0, 0));
         board.expect(outcome_of(2), (1, 0));
@@ -118,7 +118,7 @@ fn two_senders() -> Board {
     board.done(send(1, 0, 11));
     board.done(create(3, 3, 3));
     board.blocked(send(1, 100_000, 33));
-    board.blocked(send(1, 7, 22));
+    board.behind(send(1, 7, 22), 1);
     assert_eq!((board.running(), board.places([3, 2])), (1, [1, 2]));
     board
 }

@@ -7,7 +7,7 @@ mod common;
 use std::collections::BTreeSet;
 
 use common::*;
-use model::{at, random_record, random_sound, word, Rng};
+use model::{at, random_record, random_sound, wait, word, Rng};
 
 /// The codes of each operation in document 01's order, done and blocked included.
 const CODES: [&[i32]; 21] = [
@@ -54,6 +54,12 @@ fn first_of_the_highest(board: &Board) -> usize {
         .expect("Init is ready")
 }
 
+/// Order 1's "number of threads already in that line", read off the bytes.
+fn already_waiting(board: &Board, kind: u8, object: u8) -> u32 {
+    let waits = |i: &usize| board.record(*i)[3..5] == [kind, object];
+    (0..16).filter(waits).count() as u32
+}
+
 /// One step and what holds after it.
 fn step(board: &mut Board, record: &[u8; 12], pairs: &mut Pairs) {
     let before = board.clone();
@@ -70,15 +76,13 @@ fn step(board: &mut Board, record: &[u8; 12], pairs: &mut Pairs) {
         "the running thread is the rule's\n{}",
         case()
     );
-    let valued = match record[0] {
-        10 | 13 | 20 => code == 0,
-        _ => false,
+    let named = match (record[0], code) {
+        (8, 1) => already_waiting(&before, wait::SEND, record[1]),
+        (13, 1) => already_waiting(&before, wait::SEMAPHORE, record[1]),
+        (10 | 13 | 20, 0) => value,
+        _ => 0,
     };
-    assert!(
-        value == 0 || valued,
-        "the value is 0 unless named\n{}",
-        case()
-    );
+    assert_eq!(value, named, "the value is 0 unless named\n{}", case());
     check_changes(&before, board, record, code, &case);
     if record[0] <= 20 {
         pairs.insert((record[0], code));

@@ -20,10 +20,10 @@ fn all_done<const N: usize>(board: &Board, records: [[u8; 12]; N]) {
     }
 }
 
-/// Each request blocks its caller.
-fn all_blocked<const N: usize>(board: &Board, records: [[u8; 12]; N]) {
+/// Each request blocks its caller, with so many threads ahead.
+fn all_blocked<const N: usize>(board: &Board, ahead: u32, records: [[u8; 12]; N]) {
     for record in records {
-        board.clone().blocked(record);
+        board.clone().behind(record, ahead);
     }
 }
 
@@ -117,7 +117,7 @@ fn delay() {
     all_refused(&busy(), -3, [delay(0), delay(100_000), delay(u32::MAX)]);
     all_refused(&busy_init(), -5, [delay(1), delay(99_999)]);
     all_refused(&busy_locked(), -5, [delay(1), delay(99_999)]);
-    all_blocked(&busy(), [delay(1), delay(99_999)]);
+    all_blocked(&busy(), 0, [delay(1), delay(99_999)]);
 }
 
 #[test]
@@ -146,7 +146,7 @@ fn send() {
     all_refused(&busy(), -5, [send(2, 0, 1)]);
     all_refused(&busy_init(), -5, [send(2, 5, 1), send(2, 100_000, 1)]);
     all_refused(&busy_locked(), -5, [send(2, 5, 1), send(2, 100_000, 1)]);
-    all_blocked(&busy(), [send(2, 1, 1), send(2, u32::MAX, 1)]);
+    all_blocked(&busy(), 1, [send(2, 1, 1), send(2, u32::MAX, 1)]);
     // Where the call need not wait, number, caller and lock do not matter.
     for board in [busy(), busy_init(), busy_locked()] {
         all_done(&board, [send(5, 0, 1), send(3, 0, 1), send(7, 9, 1)]);
@@ -172,7 +172,7 @@ fn receive() {
     all_refused(&busy(), -5, [receive(0)]);
     all_refused(&busy_init(), -5, [receive(1), receive(100_000)]);
     all_refused(&busy_locked(), -5, [receive(1), receive(100_000)]);
-    all_blocked(&busy(), [receive(1), receive(99_999), receive(100_000)]);
+    all_blocked(&busy(), 0, [receive(1), receive(99_999), receive(100_000)]);
     let mut init = busy_init().after(interrupt_send(0, 9));
     init.expect(receive(0), (0, 9));
     let mut locked = busy().after(interrupt_send(1, 8)).after(common::lock());
@@ -205,7 +205,7 @@ fn pend() {
     all_refused(&busy(), -5, [pend(0, 0)]);
     all_refused(&busy_init(), -5, [pend(0, 5), pend(0, 100_000)]);
     all_refused(&busy_locked(), -5, [pend(0, 5), pend(0, 100_000)]);
-    all_blocked(&busy(), [pend(0, 1), pend(0, u32::MAX)]);
+    all_blocked(&busy(), 1, [pend(0, 1), pend(0, u32::MAX)]);
     for board in [busy(), busy_init(), busy_locked()] {
         board.clone().expect(pend(1, 0), (0, 98));
         board.clone().expect(pend(2, 7), (0, 0));

@@ -10,9 +10,9 @@ use model::{at, wait};
 fn four_waiters() -> Board {
     let mut board = Board::fresh();
     board.done(make(4, 0));
-    for (i, priority) in [(5, 3), (2, 9), (7, 3), (3, 6)] {
+    for (ahead, (i, priority)) in (0..).zip([(5, 3), (2, 9), (7, 3), (3, 6)]) {
         board.done(create(i, priority, 8));
-        board.blocked(pend(4, 100_000));
+        board.behind(pend(4, 100_000), ahead);
     }
     board.done(suspend(7));
     assert_eq!(
@@ -141,7 +141,7 @@ fn a_unit_never_goes_to_a_waiter_that_timed_out() {
     board.done(create(1, 3, 8));
     board.blocked(pend(4, 1));
     board.done(create(2, 3, 8));
-    board.blocked(pend(4, 100_000));
+    board.behind(pend(4, 100_000), 1);
     board.ticks(1);
     board.expect(outcome_of(1), (-5, 0));
     board.done(interrupt_post(4, 1));

@@ -70,9 +70,9 @@ fn delete_ends_its_senders_in_line_order() {
     let mut board = Board::fresh();
     board.done(create(9, 1, 3));
     board.done(interrupt_send(9, 1));
-    for i in [5, 2, 7, 3] {
+    for (ahead, i) in (0..).zip([5, 2, 7, 3]) {
         board.done(create(i, 8, u32::from(i)));
-        board.blocked(send(9, 100_000, u32::from(i)));
+        board.behind(send(9, 100_000, u32::from(i)), ahead);
     }
     board.done(suspend(7));
     assert_eq!(board.places([5, 2, 7, 3]), [1, 2, 3, 4]);

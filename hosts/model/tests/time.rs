@@ -83,16 +83,16 @@ fn waits_that_end_at_one_tick_end_by_thread_number() {
     board.done(create(8, 1, 3));
     board.done(interrupt_send(8, 1));
     let calls = [
-        (9, delay(2)),
-        (3, receive(2)),
-        (6, send(8, 2, 66)),
-        (4, pend(0, 2)),
-        (7, pend(0, 2)),
-        (5, pend(0, 3)),
+        (9, delay(2), 0),
+        (3, receive(2), 0),
+        (6, send(8, 2, 66), 0),
+        (4, pend(0, 2), 0),
+        (7, pend(0, 2), 1),
+        (5, pend(0, 3), 2),
     ];
-    for (i, call) in calls {
+    for (i, call, ahead) in calls {
         board.done(create(i, 7, 9));
-        board.blocked(call);
+        board.behind(call, ahead);
     }
     board.done(suspend(7));
     board.ticks(2);

@@ -4,7 +4,7 @@
 mod common;
 
 use common::*;
-use model::wait;
+use model::{operation, wait};
 
 /// Thread 1 runs (priority 5, turn 3, 2 ticks left, mail of outcome 0 and a parcel from an
 /// earlier receive); thread 2 has a full mailbox and a sender 3 in its line; semaphore 6 has
@@ -30,6 +30,12 @@ fn about_to_wait() -> Board {
 /// A call that waits: its record, wait kind and object, place, and parcel.
 type Call = ([u8; 12], (u8, u8), u8, u32);
 
+/// The call waits, a Send or a Pend behind the one that is there.
+fn waits(board: &mut Board, record: [u8; 12]) {
+    let ahead = u32::from(matches!(record[0], operation::SEND | operation::PEND));
+    board.behind(record, ahead);
+}
+
 /// Each call that takes a wait number.
 fn calls(number: u32) -> [Call; 3] {
     [
@@ -47,7 +53,7 @@ fn a_wait_begins_at_the_tail_with_its_number() {
         for (record, wait, place, parcel) in calls(number).into_iter().chain(delays) {
             let mut board = about_to_wait();
             let before = board.clone();
-            board.blocked(record);
+            waits(&mut board, record);
             let want = Seen {
                 wait,
                 place,
@@ -80,7 +86,7 @@ fn a_call_that_must_not_wait_changes_nothing() {
 /// A board on which thread 1 waits as the record says.
 fn waiting(record: [u8; 12], suspended: bool) -> Board {
     let mut board = about_to_wait();
-    board.blocked(record);
+    waits(&mut board, record);
     if suspended {
         board.done(suspend(1));
     }

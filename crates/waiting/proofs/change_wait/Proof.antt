@@ -1,9 +1,10 @@
--- `waiting::change_wait` meets its contract: what is written between the two lines is one change of the thread. Assumes nothing.
+-- `waiting::change_wait` meets its contract: what is written between the two lines is one change of the thread, and the place is the one that
+-- `lines::join` gives. Assumes nothing.
 use borrow.Author.Needs.{needs}
 use Rattle.rules.specs.Lines.{move}
 use Rattle.rules.specs.State.{withWait, withOutcome}
 use Rattle.layout.proofs.Held.{_⨾_}
-use Rattle.waiting.proofs.Moving.{edits}
+use Rattle.waiting.proofs.Moving.{edits, joined}
 use Rattle.waiting.proofs.change_wait.Statement.{statement}
 use Rattle.waiting.proofs.change_wait.Tie as tie
 
@@ -28,7 +29,11 @@ returns c =
     let start = c .before .before .before .before .before .before .before .before .before .before .before .before .before .before .before .before .before in
     let leave = c .before .before .before .before .before .before .before .before .before .before .before .before .before .before .leave in
     let set-wait = c .before .before .before .before .before .before .before .before .before .before .set-wait in
-    leave .ensures ⨾ edits (start .args .i) (withWait (start .args .w)) (withOutcome (start .args .outcome) (start .args .parcel)) (start .pre .0) (set-wait .ensures) (c .before .before .before .before .before .before .set-outcome .ensures) ⨾ c .before .before .join .ensures .1
+    let set-outcome = c .before .before .before .before .before .before .set-outcome in
+    let join = c .before .before .join in (
+      joined (start .args .i) (start .pre .0) (set-outcome .ensures .whole) (join .ensures .0) (join .ensures .1),
+      leave .ensures ⨾ edits (start .args .i) (withWait (start .args .w)) (withOutcome (start .args .outcome) (start .args .parcel)) (start .pre .0) (set-wait .ensures) (set-outcome .ensures) ⨾ join .ensures .1,
+    )
 
 pub change-wait-spec : {M : Type 1} → statement M
 change-wait-spec =

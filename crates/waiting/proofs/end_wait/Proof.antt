@@ -12,7 +12,7 @@ same-length c = search needs
 
 returns : tie.Need-returns
 unfolding endWait
-returns c = c .before .before .change-wait .ensures
+returns c = c .before .before .change-wait .ensures .1
 
 pub end-wait-spec : {M : Type 1} → statement M
 end-wait-spec = tie.close (tie.spec change-wait-requires same-length returns)

@@ -9,7 +9,7 @@ use Rattle.waiting.proofs.must_wait.Tie as tie
 
 returns : tie.Need-returns
 unfolding mustWait
-returns c = λ kind e. does-nothing (c .before .before .pre .whole) (λ s d. rw (eq-eqb (c .before .before .args .n) 0 (c .if1 .taken)))
+returns c = λ kind e. does-nothing (c .before .before .pre .1 .whole) (λ s d. rw (eq-eqb (c .before .before .args .n) 0 (c .if1 .taken)))
 
 may-not-wait-requires : tie.Need-may-not-wait-requires
 may-not-wait-requires c κs = search needs
@@ -19,7 +19,7 @@ same-length c = search needs
 
 returns-2 : tie.Need-returns-2
 unfolding mustWait
-returns-2 c = λ kind e. does-nothing (c .before .before .before .before .before .pre .whole) (λ s d. rw (ne-eqb (c .before .before .before .before .before .args .n) 0 (c .before .before .before .if1 .left), sym (c .before .may-not-wait .ensures s d) ∙ c .if2 .taken))
+returns-2 c = λ kind e. does-nothing (c .before .before .before .before .before .pre .1 .whole) (λ s d. rw (ne-eqb (c .before .before .before .before .before .args .n) 0 (c .before .before .before .if1 .left), sym (c .before .may-not-wait .ensures s d) ∙ c .if2 .taken))
 
 block-requires : tie.Need-block-requires
 block-requires c κs = search needs

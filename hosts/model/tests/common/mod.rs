@@ -84,9 +84,14 @@ impl Board {
         self.expect(record, (code::DONE, 0));
     }
 
-    /// The caller is blocked.
+    /// The caller is blocked, with value 0.
     pub fn blocked(&mut self, record: [u8; 12]) {
-        self.expect(record, (code::BLOCKED, 0));
+        self.behind(record, 0);
+    }
+
+    /// The caller is blocked, with so many threads ahead of it.
+    pub fn behind(&mut self, record: [u8; 12], ahead: u32) {
+        self.expect(record, (code::BLOCKED, ahead));
     }
 
     /// The request is refused with this code.
