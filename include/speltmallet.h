@@ -24,10 +24,10 @@
 extern "C" {
 #endif
 
-/* The project's version; the file VERSION has it too. */
-#define SPELTMALLET_VERSION "0.6.0"
+/* The project's version; the file VERSION has it too. From 0.7.0 on a blocked Send or Pend has a value: how many are ahead. */
+#define SPELTMALLET_VERSION "0.7.0"
 #define SPELTMALLET_VERSION_MAJOR 0
-#define SPELTMALLET_VERSION_MINOR 6
+#define SPELTMALLET_VERSION_MINOR 7
 #define SPELTMALLET_VERSION_PATCH 0
 
 /*

@@ -2,7 +2,7 @@
 #include <stdio.h>
 #include <stdlib.h>
 
-#include "../../include/speltmallet.h"
+#include <speltmallet.h>
 
 int main(void)
 {

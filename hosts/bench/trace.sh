@@ -18,7 +18,7 @@ trap 'rm -rf "$room"' EXIT
 
 for program in serve ../printer/printer; do
   name=$(basename "$program")
-  ../x86_64 cc -O3 "$program.c" -o "$room/$name.o"
+  ../x86_64 cc -O3 -I../../include "$program.c" -o "$room/$name.o"
   ../x86_64 link "$room/$name" "$room/$name.o" "$archive" 2>"$room/said" || stop "$(cat "$room/said")"
 done
 ../x86_64 run "$room/printer" "$room/requests" - 735000 >/dev/null

@@ -1,6 +1,6 @@
 /*
- * The door from C, as the firmware calls it: document 01's example run, what each sort of refusal leaves alone, and the header's
- * helpers. It prints a line for each check that fails and ends with status 1 if there is one.
+ * The door from C, as the firmware calls it: document 01's example run, the values of answers, what each sort of refusal leaves alone,
+ * and the header's helpers. It prints a line for each check that fails and ends with status 1 if there is one.
  */
 #include "speltmallet.h"
 
@@ -66,6 +66,14 @@ static void mail(void) {
     ask("Outcome 1", SPELTMALLET_OP_OUTCOME, 1, 0, 0, 0, SPELTMALLET_OUTCOME_DONE, 0x89ABCDEFUL, 2);
     ask("Send from interrupt", SPELTMALLET_OP_SEND_FROM_INTERRUPT, 2, 0, 0, 22, SPELTMALLET_DONE, 0, 2);
     ask("Receive mail", SPELTMALLET_OP_RECEIVE, 0, 0, 0, 0, SPELTMALLET_DONE, 22, 2);
+}
+
+/* Both threads wait in one line: the value says how many are ahead. */
+static void line(void) {
+    ask("Pend, first in the line", SPELTMALLET_OP_PEND, 0, 0, SPELTMALLET_FOREVER, 0, SPELTMALLET_BLOCKED, 0, 1);
+    ask("Pend, one ahead", SPELTMALLET_OP_PEND, 0, 0, SPELTMALLET_FOREVER, 0, SPELTMALLET_BLOCKED, 1, 0);
+    check("place", table[SPELTMALLET_THREAD(1) + SPELTMALLET_THREAD_PLACE], 2);
+    ask("Post for both", SPELTMALLET_OP_POST, 0, 0, 2, 0, SPELTMALLET_DONE, 0, 2);
 }
 
 /* A call that must leave the table alone and, where `untouched` says so, the answer area too. */
@@ -150,6 +158,7 @@ int main(void) {
     helpers();
     example_run();
     mail();
+    line();
     refusals();
     printf("the door from C: %d checks, %d failed\n", checks, failures);
     return failures != 0;

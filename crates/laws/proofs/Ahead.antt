@@ -1,7 +1,7 @@
 -- How many are ahead of a caller that begins to wait, and the place that it takes: with n threads already in the line it is n + 1,
 -- since the caller, which is ready, was not among them. Assumes nothing.
 use mathlib.Core.Bool.{true, false}
-use mathlib.Core.Path.{_≡_, refl, ap, sym, _∙_}
+use mathlib.Core.Path.{_≡_, refl, ap}
 use Prim.Native.Nat.{ℕ, pred}
 use native.Mathlib.Omega.{arith}
 use Rattle.rules.specs.Basic.{bit}

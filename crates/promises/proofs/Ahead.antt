@@ -2,17 +2,17 @@
 -- threads stand in its line, and a thread stands in a line of senders or of waiters exactly when its record says so. Assumes nothing.
 use mathlib.Core.Bool.{Bool, true, false, _&&_, _||_}
 use mathlib.Core.Path.{_≡_, refl, ap, sym, _∙_}
-use mathlib.Core.List.{List, [], _∷_, _++_, map}
-use Prim.Native.Nat.{ℕ, _+_}
+use mathlib.Core.List.{List, [], _∷_, map}
+use Prim.Native.Nat.{ℕ}
 use native.Mathlib.Omega.{arith}
 use lib.Dec.{eqb}
-use lib.IntN.{ℤ, pos, negsuc}
-use lib.ListN.{length, getD}
+use lib.IntN.{pos, negsuc}
+use lib.ListN.{length}
 use Rattle.rules.specs.Basic.{if_then_else_, bit, count}
 use Rattle.rules.specs.Board.{Board}
 use Rattle.rules.specs.State.{State, caller}
 use Rattle.rules.specs.Lines.{Line, nowhere, waiters, senders, same, waitLine, inLine, lineLength}
-use Rattle.rules.specs.Table.{kindOf, objectOf, threadRow, flat, encode, rows, decode}
+use Rattle.rules.specs.Table.{kindOf, objectOf, threadRow, encode, rows, decode}
 use Rattle.rules.specs.Answers.{codeOf, valueOf}
 use Rattle.rules.specs.Waiting.{Step, refuse, accept, ahead, block, mayNotWait, neverWait, waitCounter, mustWait}
 use Rattle.rules.specs.Threads.{doYield, doCreate, doDelete, doSet, doSuspend, doResume, doDelay, breakOff, doCancel}
@@ -20,15 +20,13 @@ use Rattle.rules.specs.Mail.{doSend, doSendFromInterrupt, doReceive}
 use Rattle.rules.specs.Semaphores.{doMake, doDrop, doPend, doAbort, doPost, doPostFromInterrupt}
 use Rattle.rules.specs.Time.{doLock, doUnlock, doTick, outcomeAnswer, doOutcome}
 use Rattle.rules.specs.Steps.{step}
-use Rattle.rules.specs.Sound.{Sound, SoundTable}
+use Rattle.rules.specs.Sound.{SoundTable}
 use Rattle.rules.specs.declared.Thread.{Thread}
 use Rattle.rules.specs.declared.Wait.{Wait}
 use Rattle.rules.specs.declared.Wait.the-variants.{Nothing, Delay, Receive, Send, Semaphore}
 use Rattle.rules.specs.declared.Outcome as Outcome
 use Rattle.rules.specs.declared.Refusal.{Refusal}
-use Rattle.rules.specs.declared.Refusal.the-variants.{BadThread, BadPriority, BadTicks, BadState, BadOperation, BadSemaphore, BadTable, BadRecord}
-use Rattle.rules.specs.declared.Answer.{Answer}
-use Rattle.rules.specs.declared.Answer.the-variants.{Done, Blocked, Refused}
+use Rattle.rules.specs.declared.Refusal.the-variants.{BadOperation}
 use Rattle.rules.specs.declared.Request.{Request}
 use Rattle.rules.specs.declared.Request.the-variants as Ask
 use Rattle.laws.proofs.Lines.{ready-used}
@@ -36,34 +34,31 @@ use Rattle.laws.proofs.Placed.{count-nowhere}
 use Rattle.layout.proofs.Records.{thread-wide}
 use Rattle.layout.proofs.RoundTrip.{on-decode, rows-flat}
 use Rattle.request.specs.Written.{fieldsOf}
-use Rattle.promises.specs.Ahead.{waitsFor, already, aheadOf}
+use Rattle.promises.specs.Ahead.{waitsFor, already, told}
+use Rattle.promises.proofs.Exactly.{below-zero}
 
 -- WHAT THE BYTES SAY
 
--- a thread's record says that it waits to send, or for a semaphore, exactly when it stands in that line
-sends : (i : ℕ) (u s : Bool) (w : Wait) (p : ℕ) → (eqb (bit u) 1 && eqb (kindOf w) 3 && eqb (objectOf w) i) ≡ same (if u then waitLine w s p else nowhere) (senders i)
-sends i false s w p = refl
-sends i true true (Nothing n) p = refl
-sends i true false (Nothing n) p = refl
-sends i true s (Delay n) p = refl
-sends i true s (Receive n) p = refl
-sends i true s (Send to n) p = refl
-sends i true s (Semaphore on n) p = refl
+-- a thread's record says that it waits to send, or on a semaphore, exactly when it stands in that line
+row-says : (n : ℕ) (u s : Bool) (w : Wait) (p : ℕ) → let own = if u then waitLine w s p else nowhere in
+    ((eqb (bit u) 1 && eqb (kindOf w) 3 && eqb (objectOf w) n) ≡ same own (senders n)) × ((eqb (bit u) 1 && eqb (kindOf w) 4 && eqb (objectOf w) n) ≡ same own (waiters n))
+row-says n false s w p = (refl, refl)
+row-says n true true (Nothing c) p = (refl, refl)
+row-says n true false (Nothing c) p = (refl, refl)
+row-says n true s (Delay c) p = (refl, refl)
+row-says n true s (Receive c) p = (refl, refl)
+row-says n true s (Send to c) p = (refl, refl)
+row-says n true s (Semaphore on c) p = (refl, refl)
 
-pends : (k : ℕ) (u s : Bool) (w : Wait) (p : ℕ) → (eqb (bit u) 1 && eqb (kindOf w) 4 && eqb (objectOf w) k) ≡ same (if u then waitLine w s p else nowhere) (waiters k)
-pends k false s w p = refl
-pends k true true (Nothing n) p = refl
-pends k true false (Nothing n) p = refl
-pends k true s (Delay n) p = refl
-pends k true s (Receive n) p = refl
-pends k true s (Send to n) p = refl
-pends k true s (Semaphore on n) p = refl
+says : (n : ℕ) (t : Thread) → (waitsFor 3 n (threadRow t) ≡ inLine (senders n) t) × (waitsFor 4 n (threadRow t) ≡ inLine (waiters n) t)
+unfolding threadRow
+says n t = row-says n (t .used) (t .suspended) (t .wait) (t .priority)
 
 -- the records of the threads, and who stands in a line
-module _ (kind object : ℕ) (l : Line) (says : (t : Thread) → waitsFor kind object (threadRow t) ≡ inLine l t) where
+module _ (kind object : ℕ) (l : Line) (same-test : (t : Thread) → waitsFor kind object (threadRow t) ≡ inLine l t) where
   counted : (ts : List Thread) → count (waitsFor kind object) (map threadRow ts) ≡ lineLength l ts
   counted [] = refl
-  counted (t ∷ ts) = omega (arith, ap bit (says t), counted ts)
+  counted (t ∷ ts) = omega (arith, ap bit (same-test t), counted ts)
 
   in-line : (b : Board) (t : List ℕ) → SoundTable b t → lineLength l (decode b t .threads) ≡ already b t kind object
   unfolding encode
@@ -78,18 +73,8 @@ module _ (kind object : ℕ) (l : Line) (says : (t : Thread) → waitsFor kind o
 pub record Tells (n : ℕ) (x : Step) : Type 0 where
   pub value : codeOf (x .answer) ≡ pos 1 → valueOf (x .answer) ≡ n
 
-negative : (why : Refusal) → codeOf (Refused why) ≡ pos 1 → ⊥
-negative BadThread e = let z : _≡_ {A = ℕ} 0 1 = cc in omega arith
-negative BadPriority e = let z : _≡_ {A = ℕ} 0 1 = cc in omega arith
-negative BadTicks e = let z : _≡_ {A = ℕ} 0 1 = cc in omega arith
-negative BadState e = let z : _≡_ {A = ℕ} 0 1 = cc in omega arith
-negative BadOperation e = let z : _≡_ {A = ℕ} 0 1 = cc in omega arith
-negative BadSemaphore e = let z : _≡_ {A = ℕ} 0 1 = cc in omega arith
-negative BadTable e = let z : _≡_ {A = ℕ} 0 1 = cc in omega arith
-negative BadRecord e = let z : _≡_ {A = ℕ} 0 1 = cc in omega arith
-
 refuses : (n : ℕ) (s : State) (why : Refusal) → Tells n (refuse s why)
-refuses n s why = record { value = λ e. absurd (negative why e) }
+refuses n s why = record { value = λ e. let x = below-zero why in let c : negsuc (x .0) ≡ pos 1 = rw (x .1) at e in let z : _≡_ {A = ℕ} 0 1 = cc in absurd (omega arith) }
 
 accepts : (n : ℕ) (s : State) (v : ℕ) → Tells n (accept s v)
 accepts n s v = record { value = λ e. let z : _≡_ {A = ℕ} 0 1 = cc in absurd (omega arith) }
@@ -122,12 +107,10 @@ module _ (b : Board) (t : List ℕ) (σ : SoundTable b t) where
 
   -- who is ahead in each kind of wait
   ahead-send : (i c : ℕ) → ahead s (Send i c) ≡ already b t 3 i
-  unfolding threadRow
-  ahead-send i c = rw running-used (in-line 3 i (senders i) (λ x. sends i (x .used) (x .suspended) (x .wait) (x .priority)) b t σ)
+  ahead-send i c = rw running-used (in-line 3 i (senders i) (λ x. says i x .0) b t σ)
 
   ahead-pend : (k c : ℕ) → ahead s (Semaphore k c) ≡ already b t 4 k
-  unfolding threadRow
-  ahead-pend k c = rw running-used (in-line 4 k (waiters k) (λ x. pends k (x .used) (x .suspended) (x .wait) (x .priority)) b t σ)
+  ahead-pend k c = rw running-used (in-line 4 k (waiters k) (λ x. says k x .1) b t σ)
 
   ahead-delay : (c : ℕ) → ahead s (Delay c) ≡ 0
   ahead-delay c = rw running-used (count-nowhere (s .threads))
@@ -135,7 +118,7 @@ module _ (b : Board) (t : List ℕ) (σ : SoundTable b t) where
   ahead-receive : (c : ℕ) → ahead s (Receive c) ≡ 0
   ahead-receive c = rw running-used (count-nowhere (s .threads))
 
-  pub tells : (q : Request) → Tells (aheadOf b t (fieldsOf q .0) (fieldsOf q .1)) (step s q)
+  pub tells : (q : Request) → Tells (told b t (fieldsOf q .0) (fieldsOf q .1)) (step s q)
   unfolding step doYield doCreate doDelete doSet doSuspend doResume doDelay doCancel breakOff doSend doSendFromInterrupt doReceive doMake doDrop doPend doAbort doPost doPostFromInterrupt doLock doUnlock doTick doOutcome
   tells Ask.Yield = search (branch, accepts) depth 8
   tells (Ask.Create i p n) = search (branch, refuses, accepts) depth 8

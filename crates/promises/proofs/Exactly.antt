@@ -7,7 +7,7 @@ use Prim.Native.Nat.{ℕ, _≤_}
 use native.Mathlib.Omega.{arith}
 use lib.IntN.{ℤ, pos, negsuc}
 use Rattle.rules.specs.State.{State}
-use Rattle.rules.specs.Answers.{codeOf}
+use Rattle.rules.specs.Answers.{refusalCode, codeOf}
 use Rattle.rules.specs.Steps.{step}
 use Rattle.rules.specs.declared.Refusal.{Refusal}
 use Rattle.rules.specs.declared.Refusal.the-variants.{BadThread, BadPriority, BadTicks, BadState, BadOperation, BadSemaphore, BadTable, BadRecord}
@@ -26,6 +26,17 @@ given-is s q (w ∷ l) why e = elim (test (given s q w)) [
   | is g ↦ let same : w ≡ why = let x : some w ≡ some why = rw g at e in cc in rw (← same) g
   | isnt g ↦ given-is s q l why (rw g at e)
 ]
+
+-- every refusal's number is below 0
+pub below-zero : (why : Refusal) → (n : ℕ) × (refusalCode why ≡ negsuc n)
+below-zero BadThread = (0, refl)
+below-zero BadPriority = (1, refl)
+below-zero BadTicks = (2, refl)
+below-zero BadState = (3, refl)
+below-zero BadOperation = (4, refl)
+below-zero BadSemaphore = (5, refl)
+below-zero BadTable = (6, refl)
+below-zero BadRecord = (7, refl)
 
 -- how far a code lies below −1
 below : ℤ → ℕ

@@ -16,7 +16,6 @@ use Rattle.rules.specs.Answers.{refusalCode}
 use Rattle.rules.specs.Trace.{cleanArea}
 use Rattle.rules.specs.Door.{Doored, serveDecoded, door, fresh, freshTable, Handed, tableAfter}
 use Rattle.rules.specs.declared.Refusal.{Refusal}
-use Rattle.rules.specs.declared.Refusal.the-variants.{BadThread, BadPriority, BadTicks, BadState, BadOperation, BadSemaphore, BadTable, BadRecord}
 use Rattle.rules.specs.declared.Thread.{Thread}
 use Rattle.rules.specs.declared.Request.{Request}
 use Rattle.rules.specs.declared.Request.the-variants as Ask
@@ -29,6 +28,7 @@ use Rattle.fairness.specs.Doors.{Door, runOf}
 use Rattle.promises.specs.Figures.{asks, sharesFrom, figures, premises, ownTurns}
 use Rattle.promises.specs.Rounds.{start}
 use Rattle.promises.specs.Rejected.{RuledDoor, refuses, handsBack, answersZero, rotatesOnce, inventsValue, five, Counted, Rejected, Refusing}
+use Rattle.promises.proofs.Exactly.{below-zero}
 use Rattle.promises.proofs.First.{served}
 use Rattle.promises.proofs.Second.{second}
 use Rattle.promises.proofs.Figures.{own-turns}
@@ -58,14 +58,7 @@ told tells d rs q ruled other h = clash ruled (ap tells (sym (ruled-gives d h rs
 
 -- no refusal's number is 0
 not-zero : (why : Refusal) → isZero (refusalCode why) ≡ false
-not-zero BadThread = refl
-not-zero BadPriority = refl
-not-zero BadTicks = refl
-not-zero BadState = refl
-not-zero BadOperation = refl
-not-zero BadSemaphore = refl
-not-zero BadTable = refl
-not-zero BadRecord = refl
+not-zero why = rw (below-zero why .1)
 
 -- two threads share a rank, with turns 2 and 3; then their first round is over but for a tick
 pair : List Request

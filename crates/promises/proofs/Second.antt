@@ -27,7 +27,7 @@ use Rattle.layout.proofs.RoundTrip.{on-decode, decode-encode}
 use Rattle.preservation.proofs.Frame.{on-kept, running-kept}
 use Rattle.preservation.proofs.Steps.{kept}
 use Rattle.request.proofs.Trips.{fields-read}
-use Rattle.promises.specs.Ahead.{aheadOf}
+use Rattle.promises.specs.Ahead.{told}
 use Rattle.promises.specs.Demand2.{RunsFirst, Ruled, Demand2}
 use Rattle.promises.proofs.Ahead.{tells}
 use Rattle.promises.proofs.First.{served}
@@ -70,14 +70,12 @@ module _ (b : Board) (t : List ℕ) (σ : SoundTable b t) where
 
   -- beside code 1, which only a request that is served can have
   served-tells : (r : List ℕ) (d : Decoded) → decodeRequest r ≡ d → serveDecoded b t d .code ≡ pos 1
-      → serveDecoded b t d .area ≡ wordBytes 1 ++ wordBytes (aheadOf b t (getD r 0 0) (getD r 1 0))
+      → serveDecoded b t d .area ≡ wordBytes 1 ++ wordBytes (told b t (getD r 0 0) (getD r 1 0))
   unfolding serveDecoded areaOf
   served-tells r Bad e k = let z : _≡_ {A = ℕ} 0 1 = cc in absurd (omega arith)
-  served-tells r (Asked q) e k =
-      let f = fields-read r q e in
-      rw (k, tells b t σ q .value k, f)
+  served-tells r (Asked q) e k = rw (k, tells b t σ q .value k, fields-read r q e)
 
-  pub door-tells : (r a : List ℕ) → door b t r a .code ≡ pos 1 → door b t r a .area ≡ wordBytes 1 ++ wordBytes (aheadOf b t (getD r 0 0) (getD r 1 0))
+  pub door-tells : (r a : List ℕ) → door b t r a .code ≡ pos 1 → door b t r a .area ≡ wordBytes 1 ++ wordBytes (told b t (getD r 0 0) (getD r 1 0))
   unfolding door
   door-tells r a k = elim (test (eqb (length a) areaLength && soundTable b t)) [
     | is e ↦ rw e (served-tells r (decodeRequest r) refl (rw e at k))

@@ -18,10 +18,10 @@ waitsFor kind object row = eqb (getD row 0 0) 1 && eqb (getD row 3 0) kind && eq
 abbrev pub already : Board → List ℕ → ℕ → ℕ → ℕ
 already b t kind object = count (waitsFor kind object) (rows (b .threads) t)
 
--- the value beside code 1, by operation and object: for "8 Send" the senders to that thread, for "13 Pend" the waiters on that
+-- what is told beside code 1, by operation and object: for "8 Send" the senders to that thread, for "13 Pend" the waiters on that
 -- semaphore, 0 for any other
-abbrev pub aheadOf : Board → List ℕ → ℕ → ℕ → ℕ
-aheadOf b t operation object =
+abbrev pub told : Board → List ℕ → ℕ → ℕ → ℕ
+told b t operation object =
     if eqb operation 8 then already b t 3 object else
     if eqb operation 13 then already b t 4 object else
     0

@@ -17,7 +17,7 @@ use Rattle.rules.specs.Steps.{step}
 use Rattle.rules.specs.Door.{Doored, answered, door, freshTable, Handed, tableAfter}
 use Rattle.rules.specs.declared.Request.{Request}
 use Rattle.rules.specs.declared.Decoded.the-variants.{Asked}
-use Rattle.promises.specs.Ahead.{aheadOf}
+use Rattle.promises.specs.Ahead.{told}
 
 -- "the running thread is the first of the highest non-empty line"
 pub record RunsFirst (s : State) : Type 0 where
@@ -32,7 +32,7 @@ pub record Ruled (b : Board) (t r a : List ℕ) (d : Doored) : Type 0 where
       → d ≡ answered (encode (step (decode b t) q .state)) (step (decode b t) q .answer)
   -- order 1: "A Send or Pend that answers 1 now gives as its value the number of threads already in that line", by the bytes of table and
   -- record; "Delay and Receive keep value 0", and so does an outcome that is 1,
-  pub ahead : d .code ≡ pos 1 → d .area ≡ wordBytes 1 ++ wordBytes (aheadOf b t (getD r 0 0) (getD r 1 0))
+  pub ahead : d .code ≡ pos 1 → d .area ≡ wordBytes 1 ++ wordBytes (told b t (getD r 0 0) (getD r 1 0))
   -- the next table is sound again,
   pub sound : SoundTable b (d .table)
   -- "with lock 0, the running thread is the first of the highest non-empty line;"

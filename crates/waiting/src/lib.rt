@@ -132,9 +132,8 @@ pub fn block(t: &mut [u8], w: Wait, parcel: u32) -> Answer
     let i = records::running(t);
     let place = change_wait(t, i, w, Outcome::NoneYet, parcel);
     lines::settle(t);
-    Answer::Blocked {
-        ahead: ahead_of(place),
-    }
+    let ahead = ahead_of(place);
+    Answer::Blocked { ahead }
 }
 
 // What a wait number leaves on the counter: 0 where the wait has no end.

@@ -21,17 +21,25 @@ fn all_wait(mut table: [u8; TABLE], first: u8, wait: [u8; RECORD]) -> [u8; TABLE
     table
 }
 
-/// 15 threads wait on semaphore 0.
-fn waiters(number: u32) -> [u8; TABLE] {
-    let made = after(fresh(), record(op::MAKE, 0, 0, 0, 0));
-    all_wait(made, 1, record(op::PEND, 0, 0, number, 0))
+/// A fresh table with the threads below `first`, of which the last runs once the others wait.
+fn ready_below(first: u8) -> [u8; TABLE] {
+    let create = |table, i| after(table, record(op::CREATE, i, i, 5, 0));
+    (1..first).fold(fresh(), create)
 }
 
-/// 14 threads send to thread 1, whose mailbox is full and which runs.
-fn senders() -> [u8; TABLE] {
-    let table = after(fresh(), record(op::CREATE, 1, 1, 5, 0));
-    let full = after(table, record(op::SEND_FROM_INTERRUPT, 1, 0, 0, 7));
-    all_wait(full, 2, record(op::SEND, 1, 0, FOREVER, 9))
+/// The threads from `first` on wait on semaphore 0.
+fn waiters(first: u8, number: u32) -> [u8; TABLE] {
+    let made = after(ready_below(first), record(op::MAKE, 0, 0, 0, 0));
+    all_wait(made, first, record(op::PEND, 0, 0, number, 0))
+}
+
+/// The threads from `first` on send to thread 1, whose mailbox is full.
+fn senders(first: u8) -> [u8; TABLE] {
+    let full = after(
+        ready_below(first),
+        record(op::SEND_FROM_INTERRUPT, 1, 0, 0, 7),
+    );
+    all_wait(full, first, record(op::SEND, 1, 0, FOREVER, 9))
 }
 
 /// Init and 15 others in one rank; Init is last, and thread 1 runs with one tick left.
@@ -65,32 +73,42 @@ pub fn worst() -> Vec<Group> {
         ),
         (
             "Delete with 14 senders",
-            senders(),
+            senders(2),
             record(op::DELETE, 1, 0, 0, 0),
         ),
         (
             "Receive with 14 senders",
-            senders(),
+            senders(2),
             record(op::RECEIVE, 0, 0, 0, 0),
         ),
         (
+            "Send behind 13 senders",
+            senders(3),
+            record(op::SEND, 1, 0, FOREVER, 9),
+        ),
+        (
+            "Pend behind 14 waiters",
+            waiters(2, FOREVER),
+            record(op::PEND, 0, 0, FOREVER, 0),
+        ),
+        (
             "Drop with 15 waiters",
-            waiters(FOREVER),
+            waiters(1, FOREVER),
             record(op::DROP, 0, 0, 0, 0),
         ),
         (
             "Abort with 14 behind",
-            waiters(FOREVER),
+            waiters(1, FOREVER),
             record(op::ABORT, 1, 0, 0, 0),
         ),
         (
             "Post serves 15 waiters",
-            waiters(FOREVER),
+            waiters(1, FOREVER),
             record(op::POST, 0, 0, 99, 0),
         ),
         ("Tick rotates a rank of 16", rank_of_16(), tick),
         ("Tick ends 15 delays", delays, tick),
-        ("Tick ends 15 waits on a semaphore", waiters(1), tick),
+        ("Tick ends 15 waits on a semaphore", waiters(1, 1), tick),
     ];
     let group = |(name, table, record): (&str, [u8; TABLE], [u8; RECORD])| Group {
         name: name.to_string(),

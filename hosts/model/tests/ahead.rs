@@ -4,8 +4,7 @@
 mod common;
 
 use common::*;
-
-const FOREVER: u32 = 100_000;
+use model::FOREVER;
 
 /// A line of waiters or of senders: how its next member asks, and how its first is served.
 struct Kind {
