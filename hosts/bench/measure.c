@@ -3,7 +3,8 @@
  * cases (32 bits) and then the cases: the group that it counts for (32 bits), a table and a request. What comes out is a line for
  * each group: its number, then figures for the door and for the plain kernel.
  *
- *   measure stack           the most bytes of stack that a call wrote to, its return address among them, on a painted stack
+ *   measure stack           the most bytes of stack that a call wrote to, its return address among them, on a painted stack; it fails
+ *                           where the two kernels leave different tables or answers
  *   measure steps           instructions a call, and the deepest that the stack pointer went, one instruction at a time
  *   measure time ROUNDS     nanoseconds a call, the best of so many rounds; the two kernels take turns to go first
  */
@@ -75,13 +76,29 @@ static unsigned painted_stack(kernel_door *door, const struct request_case *c) {
     unsigned clean = 0;
     memset(stack, PAINT, sizeof stack);
     memcpy(work, c->table, sizeof work);
+    memset(answer, PAINT, sizeof answer);
     call_on(stack + PAINTED, door, work, c->request, answer);
     while (clean < PAINTED && stack[clean] == PAINT) clean++;
     if (clean == 0) fail("the painted stack is too small");
     return PAINTED - clean;
 }
 
+/* The two kernels are of the same rules: what each leaves of the table and the answer area after a case is the same. */
+static void same_rules(const struct request_case *c, uint8_t tables[KERNELS][sizeof work], uint8_t answers[KERNELS][sizeof answer]) {
+    size_t i;
+    if (!memcmp(tables[0], tables[1], sizeof work) && !memcmp(answers[0], answers[1], sizeof answer)) return;
+    fprintf(stderr, "measure: the door and plain.c leave different bytes after the request");
+    for (i = 0; i < sizeof c->request; i++) fprintf(stderr, " %02x", c->request[i]);
+    fprintf(stderr, "; answers");
+    for (i = 0; i < sizeof answer; i++) fprintf(stderr, " %02x", answers[0][i]);
+    fprintf(stderr, " and");
+    for (i = 0; i < sizeof answer; i++) fprintf(stderr, " %02x", answers[1][i]);
+    fprintf(stderr, "\n");
+    exit(2);
+}
+
 static void measure_stack(void) {
+    static uint8_t tables[KERNELS][sizeof work], answers[KERNELS][sizeof answer];
     uint32_t first, length, i;
     for (first = 0; first < case_count; first += length) {
         unsigned most[KERNELS] = {0, 0};
@@ -91,7 +108,10 @@ static void measure_stack(void) {
             for (k = 0; k < KERNELS; k++) {
                 unsigned used = painted_stack(kernels[k], &cases[i]);
                 if (used > most[k]) most[k] = used;
+                memcpy(tables[k], work, sizeof work);
+                memcpy(answers[k], answer, sizeof answer);
             }
+            same_rules(&cases[i], tables, answers);
         }
         printf("%u %u %u\n", cases[first].group, most[0], most[1]);
     }
