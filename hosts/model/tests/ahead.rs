@@ -56,11 +56,11 @@ fn the_fourth_comer_has_3_ahead_and_the_next_after_one_is_served_has_3_again() {
     }
 }
 
-/// The value is the place less 1, in a line of every length. On a semaphore thread 2 is the
-/// fifteenth, and only Init is left.
+/// The value is the place less 1, in a line of every length. Thread 2 is the fifteenth that waits
+/// on the semaphore; it sends nothing to itself.
 #[test]
 fn a_line_of_every_length() {
-    for kind in &KINDS {
+    for (kind, last) in KINDS.iter().zip([(1, 14), (-5, 0)]) {
         let mut board = (kind.board)();
         for (ahead, i) in [1].into_iter().chain(3..16).enumerate() {
             board.done(create(i, 9, 3));
@@ -68,14 +68,8 @@ fn a_line_of_every_length() {
             assert_eq!(usize::from(board.seen(i.into()).place), ahead + 1);
         }
         assert_eq!(board.running(), 2);
+        board.expect((kind.ask)(FOREVER), last);
     }
-    let mut board = (KINDS[0].board)();
-    for i in [1].into_iter().chain(3..16) {
-        board.done(create(i, 9, 3));
-        board.ask(&pend(6, FOREVER));
-    }
-    board.behind(pend(6, FOREVER), 14);
-    assert_eq!((board.running(), board.seen(2).place), (0, 15));
 }
 
 /// A call's priority and time limit are nothing to the line, and Outcome's code 1 keeps value 0.
