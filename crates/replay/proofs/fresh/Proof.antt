@@ -5,8 +5,6 @@ use Rattle.rules.specs.Table.{encode, flat, threadRow, semRow, kernelRow}
 use borrow.Author.Needs.{needs}
 use Rattle.replay.proofs.fresh.Statement.{statement}
 use Rattle.replay.proofs.fresh.Tie as tie
-use Rattle.replay.proofs.fresh.Reads as reads
-use Rattle.replay.proofs.fresh.Lts as lts
 
 -- src/lib.rt:19:5
 array-write-t : tie.Need-array-write-t
