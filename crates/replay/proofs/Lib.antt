@@ -2,4 +2,3 @@
 pub mod Line
 pub mod Progress
 pub mod Parts
-pub mod Kept

@@ -1,5 +1,5 @@
--- A trace splits at any whole number of records: the records of a list and of one that goes on behind it are those of the first, then those of
--- its left-over bytes with the rest. So a trace that goes on from where it stands prints what the trace of the whole prints. Assumes nothing.
+-- A trace splits at any whole number of records, as its input does. So a trace that goes on from where it stands prints what the trace of the
+-- whole prints. Assumes nothing.
 use mathlib.Core.Path.{_≡_, refl, sym, ap, _∙_}
 use mathlib.Core.List.{List, [], _∷_, _++_, map, flatten, append-assoc, append-nil}
 use Prim.Native.Nat.{ℕ, zero, suc, _+_, _*_, _/_, _%_, _≤_, _<_}
@@ -13,65 +13,9 @@ use Rattle.rules.specs.Door.{door, freshTable, tableAfter}
 use Rattle.rules.specs.Trace.{records, cleanArea, cleanly, traceLine, traceFrom, shortLine, wholeRecords, traceOn, trace}
 use Rattle.text.specs.Text.{traceText}
 use Rattle.text.proofs.Putting.{trace-append}
-use Rattle.replay.specs.Replay.{leftOver}
+use Rattle.parts.specs.LeftOver.{leftOver}
+use Rattle.parts.proofs.Whole.{records-length, count, whole-append, rest-append, left-append, left-length, none-whole}
 use Rattle.replay.specs.Parts.{Stand, begins, lines, after, printed, InParts, AsOne}
-
--- RECORDS
-
-records-length : (k : ℕ) (xs : List ℕ) → length (records k xs) ≡ k
-unfolding records
-records-length zero xs = refl
-records-length (suc k) xs = ap suc (records-length k (drop requestLength xs))
-
-records-add : (k m : ℕ) (xs : List ℕ) → records (k + m) xs ≡ records k xs ++ records m (drop (k * requestLength) xs)
-unfolding records
-records-add zero m xs = ap (λ k. records k xs) (zero-add m)
-records-add (suc k) m xs =
-    let place : requestLength + k * requestLength ≡ suc k * requestLength = omega arith in
-    ap (λ n. records n xs) (suc-add k m)
-    ∙ ap (λ rs. take requestLength xs ∷ rs) (records-add k m (drop requestLength xs))
-    ∙ ap (λ l. records (suc k) xs ++ records m l) (drop-drop (k * requestLength) requestLength xs ∙ ap (λ j. drop j xs) place)
-
-records-front : (k : ℕ) (xs ys : List ℕ) → k * requestLength ≤ length xs → records k (xs ++ ys) ≡ records k xs
-unfolding records
-records-front zero xs ys h = refl
-records-front (suc k) xs ys h = λ j.
-    take-append-le requestLength xs ys (omega arith) j
-    ∷ (ap (records k) (drop-append-le requestLength xs ys (omega arith))
-    ∙ records-front k (drop requestLength xs) ys (omega (arith, length-drop requestLength xs))) j
-
--- the records of a list that goes on: those that are whole, and those of the left-over bytes with the rest
-module _ (come more : List ℕ) where
-  behind : drop (length come / requestLength * requestLength) (come ++ more) ≡ leftOver come ++ more
-  behind = drop-append-le (length come / requestLength * requestLength) come more (omega arith)
-
-  -- how many bytes that is
-  size : length (leftOver come ++ more) + length come / requestLength * requestLength ≡ length come + length more
-  size = omega (arith, length-append (leftOver come) more, length-drop (length come / requestLength * requestLength) come)
-
-  count : length (come ++ more) / requestLength ≡ length come / requestLength + length (leftOver come ++ more) / requestLength
-  count = omega (arith, length-append come more, size)
-
-  pub whole-append : wholeRecords (come ++ more) ≡ wholeRecords come ++ wholeRecords (leftOver come ++ more)
-  whole-append =
-      ap (λ n. records n (come ++ more)) count
-      ∙ records-add (length come / requestLength) (length (leftOver come ++ more) / requestLength) (come ++ more)
-      ∙ (λ j. records-front (length come / requestLength) come more (omega arith) j ++ records (length (leftOver come ++ more) / requestLength) (behind j))
-
-  rest-append : length (come ++ more) % requestLength ≡ length (leftOver come ++ more) % requestLength
-  rest-append = omega (arith, length-append come more, size)
-
-  left-append : leftOver (come ++ more) ≡ leftOver (leftOver come ++ more)
-  left-append =
-      (let places : length (come ++ more) / requestLength * requestLength
-      ≡ length come / requestLength * requestLength + length (leftOver come ++ more) / requestLength * requestLength = omega (arith, count) in
-      ap (λ j. drop j (come ++ more)) places)
-      ∙ sym (drop-drop (length (leftOver come ++ more) / requestLength * requestLength) (length come / requestLength * requestLength) (come ++ more))
-      ∙ ap (drop (length (leftOver come ++ more) / requestLength * requestLength)) behind
-
--- fewer bytes than a record are left over
-pub left-length : (come : List ℕ) → length (leftOver come) ≡ length come % requestLength
-left-length come = omega (arith, length-drop (length come / requestLength * requestLength) come)
 
 -- TABLES AND LINES
 
@@ -105,11 +49,6 @@ goes-on b n t come more =
     ∙ ap (λ ls. ls ++ short) (lines-append b n t (wholeRecords come) later)
     ∙ ap (λ m. (traceFrom b n t (wholeRecords come) ++ traceFrom b (n + m) t′ later) ++ short) (records-length k come)
     ∙ append-assoc (traceFrom b n t (wholeRecords come)) (traceFrom b (n + k) t′ later) short
-
--- where fewer bytes than a record have come, none is whole
-none-whole : (held : List ℕ) → length held < requestLength → wholeRecords held ≡ []
-unfolding records
-none-whole held h = let none : length held / requestLength ≡ 0 = omega arith in ap (λ n. records n held) none
 
 -- what is printed of the parts is what the trace that goes on from there prints of the whole
 pub printed-whole : (b : Board) (s : Stand) (parts : List (List ℕ)) → length (s .held) < requestLength

@@ -9,7 +9,7 @@ use Rattle.rules.specs.Requests.{requestLength}
 use Rattle.rules.specs.Door.{freshTable, tableAfter}
 use Rattle.rules.specs.Trace.{TraceLine, cleanly, wholeRecords, traceFrom, shortLine, trace}
 use Rattle.text.specs.Text.{traceText}
-use Rattle.replay.specs.Replay.{leftOver}
+use Rattle.parts.specs.LeftOver.{leftOver}
 
 -- the number of the next record, the table that it finds, and the bytes that have come and are no whole record yet
 pub record Stand : Type 0 where

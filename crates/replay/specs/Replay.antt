@@ -2,7 +2,7 @@
 use mathlib.Core.Path.{_≡_}
 use mathlib.Core.List.{List, map}
 use Prim.Native.Nat.{ℕ, _*_, _/_, _≤_}
-use lib.ListN.{length, drop}
+use lib.ListN.{length}
 use Rattle.rules.specs.Board.{printer}
 use Rattle.rules.specs.Requests.{requestLength}
 use Rattle.rules.specs.Door.{tableAfter}
@@ -16,7 +16,3 @@ pub record Replayed (t input : List ℕ) (n : ℕ) (out t′ out′ : List ℕ) 
   pub lines : Puts out 0 (traceText (traceFrom printer n t (wholeRecords input))) out′ next
   -- there was room for them
   pub room : next ≤ length input / requestLength * lineRoom
-
--- the bytes behind the last whole record
-abbrev pub leftOver : List ℕ → List ℕ
-leftOver input = drop (length input / requestLength * requestLength) input

@@ -1,7 +1,7 @@
 // A trace, part by part: whole records are put to the door one after the other, and what is printed of them is put into a lent buffer. What
 // is left over of a part goes before the next one. `specs/Parts.antt` says where a trace stands between two parts.
 ghost use mathlib.Core.Path.{_≡_};
-ghost use Prim.Native.Nat.{_+_, _-_, _*_, _/_, _%_, _≤_, _<_, _^_};
+ghost use Prim.Native.Nat.{_+_, _*_, _/_, _%_, _≤_, _<_, _^_};
 ghost use lib.ListN.{length, take, drop};
 ghost use lib.Seq.{sets};
 ghost use Rattle.rules.specs.Board.{printer, tableLength};
@@ -10,7 +10,8 @@ ghost use Rattle.rules.specs.Door.{door, freshTable};
 ghost use Rattle.rules.specs.Trace.{cleanArea, traceLine, shortLine};
 ghost use Rattle.text.specs.Text.{lineText, traceText};
 ghost use Rattle.text.specs.Puts.{Puts, lineRoom, shortRoom};
-ghost use Rattle.replay.specs.Replay.{Replayed, leftOver};
+ghost use Rattle.parts.specs.LeftOver.{leftOver};
+ghost use Rattle.replay.specs.Replay.{Replayed};
 use reader::Read;
 
 // A fresh table.
@@ -71,19 +72,6 @@ fn replay(table: &mut [u8], input: &[u8], first: u64, out: &mut [u8]) -> usize
     next
 }
 
-// The bytes from place `from` up to place `n` of the block move to its front. How many they are is given back.
-fn keep(block: &mut [u8], from: usize, n: usize) -> usize
-    requires { ⌜ (from ≤ n) × (n ≤ length (now block)) ⌝ }
-    ensures { λ held. ⌜ held ≡ n - from ⌝ }
-    ensures { λ _. ⌜ now (block .exit) ≡ sets (now (block .entry)) 0 (drop from (take n (now (block .entry)))) ⌝ }
-{
-    let held = n - from;
-    for i in 0..held {
-        block[i] = block[from + i];
-    }
-    held
-}
-
 // Where a trace stands after a part: the number of the next record, how many bytes are held at the front of the block, and the place after
 // the part's lines.
 pub struct Served {
@@ -106,7 +94,7 @@ pub fn serve(table: &mut [u8], number: u64, block: &mut [u8], n: usize, out: &mu
 {
     let next = replay(table, &block[..n], number, out);
     let records = n / rules::REQUEST;
-    let held = keep(block, records * rules::REQUEST, n);
+    let held = parts::keep(block, records * rules::REQUEST, n);
     Served {
         number: number + records as u64,
         held,

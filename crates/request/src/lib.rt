@@ -17,7 +17,7 @@ fn asked_if(zeroed: bool, request: Request) -> Decoded
 }
 
 // The request of an operation's number and its four fields.
-fn request_of(operation: u8, object: u8, priority: u8, number: u32, parcel: u32) -> Decoded
+pub fn request_of(operation: u8, object: u8, priority: u8, number: u32, parcel: u32) -> Decoded
     ensures { λ r. ⌜ r ≡ requestOf operation object priority number parcel ⌝ }
 {
     // The fields that are zero.

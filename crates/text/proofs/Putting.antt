@@ -5,7 +5,7 @@ use Prim.Native.Nat.{ℕ, suc, _+_, _≤_}
 use native.Mathlib.Omega.{arith}
 use native.Mathlib.Nat.{add-zero}
 use lib.ListN.{length, set, take, drop, length-append}
-use lib.Seq.{sets, sets-eq}
+use lib.Seq.{sets, sets-eq, take-append-seam}
 use Rattle.rules.specs.Trace.{TraceLine}
 use Rattle.text.specs.Text.{lineText, traceText}
 use Rattle.text.specs.Puts.{Puts}
@@ -37,6 +37,15 @@ pub puts-bytes : {entry exit t : List ℕ} {at next : ℕ}
     → at + length t ≤ length entry → Puts entry at t exit next → exit ≡ take at entry ++ t ++ drop next entry
 puts-bytes {entry} {exit} {t} {at} room p =
     p .bytes ∙ sets-eq t entry at room ∙ ap (λ (k : ℕ). take at entry ++ t ++ drop k entry) (sym (p .place))
+
+-- what is stored at the front of a list stands there
+pub front : (l vs : List ℕ) → length vs ≤ length l → take (length vs) (sets l 0 vs) ≡ vs
+front l vs h = ap (take (length vs)) (sets-eq vs l 0 (omega arith)) ∙ take-append-seam vs (drop (0 + length vs) l)
+
+pub puts-front : {out text out′ : List ℕ} {next : ℕ} → Puts out 0 text out′ next → next ≤ length out → take next out′ ≡ text
+puts-front {out} {text} {out′} {next} p h =
+    let end : next ≡ length text = omega (arith, p .place) in
+    (λ j. take (end j) (p .bytes j)) ∙ front out text (omega arith)
 
 -- the lines of two traces, one after the other
 pub trace-append : (ls ms : List TraceLine) → traceText (ls ++ ms) ≡ traceText ls ++ traceText ms

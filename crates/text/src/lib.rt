@@ -16,6 +16,17 @@ pub fn put_byte(out: &mut [u8], at: usize, byte: u8) -> usize
     at + 1
 }
 
+// The bytes of another text.
+pub fn put_bytes(out: &mut [u8], at: usize, bytes: &[u8]) -> usize
+    requires { ⌜ at + length (now bytes) ≤ length (now out) ⌝ }
+    ensures { λ next. ⌜ Puts (now (out .entry)) at (now (bytes .entry)) (now (out .exit)) next ⌝ }
+{
+    for i in 0..bytes.len() {
+        out[at + i] = bytes[i];
+    }
+    at + bytes.len()
+}
+
 // A number in decimal: the digits before the last, then the last.
 pub fn put_number(out: &mut [u8], at: usize, n: u64) -> usize
     requires { ⌜ at + length (decimal n) ≤ length (now out) ⌝ }
@@ -71,11 +82,6 @@ pub fn put_short(out: &mut [u8], at: usize, n: usize) -> usize
     ensures { λ next. ⌜ Puts (now (out .entry)) at (lineText (short n)) (now (out .exit)) next ⌝ }
     ensures { λ next. ⌜ next ≤ at + shortRoom ⌝ }
 {
-    out[at] = b's';
-    out[at + 1] = b'h';
-    out[at + 2] = b'o';
-    out[at + 3] = b'r';
-    out[at + 4] = b't';
-    out[at + 5] = b' ';
-    put_field(out, at + 6, n as u64, b'\n')
+    let first = put_bytes(out, at, b"short ");
+    put_field(out, first, n as u64, b'\n')
 }

@@ -4,27 +4,22 @@ use mathlib.Core.Path.{_≡_, refl, sym, ap, subst, _∙_}
 use mathlib.Core.List.{List, [], _++_, map}
 use Prim.Native.Nat.{ℕ, _+_, _-_, _/_, _%_, _≤_}
 use native.Mathlib.Omega.{arith}
-use lib.ListN.{length, take, drop, take-append-drop, length-append, length-drop}
-use lib.Seq.{sets, sets-eq, take-take, take-append-seam, length-take-le}
+use lib.ListN.{length, take, drop, length-append}
+use lib.Seq.{sets, length-take-le}
 use Rattle.rules.specs.Board.{printer}
 use Rattle.rules.specs.Requests.{requestLength}
 use Rattle.rules.specs.Door.{tableAfter}
 use Rattle.rules.specs.Trace.{cleanly, shortLine, wholeRecords}
 use Rattle.text.specs.Text.{traceText}
 use Rattle.text.specs.Puts.{Puts}
-use Rattle.replay.specs.Replay.{Replayed, leftOver}
+use Rattle.text.proofs.Putting.{front, puts-front}
+use Rattle.parts.specs.LeftOver.{leftOver}
+use Rattle.parts.proofs.Behind.{come, part-size}
+use Rattle.parts.proofs.Whole.{left-length}
+use Rattle.replay.specs.Replay.{Replayed}
 use Rattle.replay.specs.Parts.{Stand, begins, after}
-use Rattle.replay.proofs.Parts.{left-length, as-one, after-nothing}
+use Rattle.replay.proofs.Parts.{as-one, after-nothing}
 use Rattle.trace.specs.Going.{standing, Traced, Ended}
-
--- what is stored at the front of a list stands there
-front : (l vs : List ℕ) → length vs ≤ length l → take (length vs) (sets l 0 vs) ≡ vs
-front l vs h = ap (take (length vs)) (sets-eq vs l 0 (omega arith)) ∙ take-append-seam vs (drop (0 + length vs) l)
-
-pub puts-front : {out text out′ : List ℕ} {next : ℕ} → Puts out 0 text out′ next → next ≤ length out → take next out′ ≡ text
-puts-front {out} {text} {out′} {next} p h =
-    let end : next ≡ length text = omega (arith, p .place) in
-    (λ j. take (end j) (p .bytes j)) ∙ front out text (omega arith)
 
 -- where a trace stands after some bytes at hand
 abbrev on : ℕ → List ℕ → List ℕ → Stand
@@ -32,31 +27,22 @@ on number t l = record { number = number + length l / requestLength; table = tab
 
 -- the bytes that are held, and what a read put behind them
 module _ (block block′ : List ℕ) (held n : ℕ) (stay : take held block′ ≡ take held block) (behind : held ≤ n) (inside : n ≤ length block′) where
-  abbrev part : List ℕ
-  part = drop held (take n block′)
-
-  come : take held block ++ part ≡ take n block′
-  come = ap (λ l. l ++ part) (sym stay ∙ sym (take-take held n block′ behind)) ∙ take-append-drop held (take n block′)
-
   left : take (n % requestLength) (sets block′ 0 (leftOver (take n block′))) ≡ leftOver (take n block′)
   left =
       let size : length (leftOver (take n block′)) ≡ n % requestLength = left-length (take n block′) ∙ ap (λ k. k % requestLength) (length-take-le n block′ inside) in
       subst (λ k. take k (sets block′ 0 (leftOver (take n block′))) ≡ leftOver (take n block′)) size (front block′ (leftOver (take n block′)) (omega (arith, size)))
 
-  part-size : length part ≡ n - held
-  part-size = length-drop held (take n block′) ∙ ap (λ k. k - held) (length-take-le n block′ inside)
-
   -- where the trace stands when the part is served
   served-on : (number : ℕ) (t out t′ out′ block″ : List ℕ) (number′ held′ next : ℕ)
       → Replayed t (take n block′) number out t′ out′ next → number′ ≡ number + n / requestLength → held′ ≡ n % requestLength
       → block″ ≡ sets block′ 0 (leftOver (take n block′))
-      → standing number′ t′ block″ held′ ≡ after printer (standing number t block held) part
+      → standing number′ t′ block″ held′ ≡ after printer (standing number t block held) (drop held (take n block′))
   unfolding after
   served-on number t out t′ out′ block″ number′ held′ next r en eh eb =
       let size : length (take n block′) ≡ n = length-take-le n block′ inside in
       let count : number′ ≡ number + length (take n block′) / requestLength = en ∙ ap (λ k. number + k / requestLength) (sym size) in
       (λ j. record { number = count j; table = r .table j; held = ((λ i. take (eh i) (eb i)) ∙ left) j })
-      ∙ ap (on number t) (sym come)
+      ∙ ap (on number t) (sym (come block block′ held n stay behind inside))
 
 -- THE RUN
 

@@ -18,15 +18,6 @@ const BLOCK: usize = RECORDS * rules::REQUEST;
 
 const LINES: usize = RECORDS * 48;
 
-// How many reads there are at the most: more than any machine makes.
-const READS: u64 = 1125899906842624;
-
-// What a read leaves: so many bytes are at hand, and whether it failed.
-struct Come {
-    n: usize,
-    failed: bool,
-}
-
 // What the run comes to: how many bytes have come, how many records are served, and the place after the last line.
 struct Served {
     bytes: u64,
@@ -46,46 +37,8 @@ fn empty_lines() -> [u8; LINES]
     [0; LINES]
 }
 
-fn say_unread() {
-    io::write_all(
-        libc::STDERR_FILENO,
-        b"trace: standard input can't be read\n",
-    );
-}
-
-// One read of standard input, behind the bytes that are held: these stay. A failure is said on standard error.
-fn read_behind(block: &mut [u8], held: usize) -> Come
-    requires { ⌜ held ≤ length (now block) ⌝ }
-    ensures within { λ r. ⌜ (held ≤ r .n) × (r .n ≤ length (now (block .exit))) ⌝ }
-    ensures held { λ _. ⌜ take held (now (block .exit)) ≡ take held (now (block .entry)) ⌝ }
-{
-    let got = libc::read(libc::STDIN_FILENO, &mut block[held..]);
-    let k = io::count(got, &block[held..]);
-    if got < 0 {
-        say_unread();
-    }
-    Come {
-        n: held + k,
-        failed: got < 0,
-    }
-}
-
-// The first `n` bytes of the lines are written; a failure is said on standard error.
-fn written(lines: &[u8], n: usize) -> bool
-    requires { ⌜ n ≤ length (now lines) ⌝ }
-{
-    if io::write_all(libc::STDOUT_FILENO, &lines[..n]) {
-        return true;
-    }
-    io::write_all(
-        libc::STDERR_FILENO,
-        b"trace: standard output can't be written\n",
-    );
-    false
-}
-
 // No more is read: the line of the bytes that are held stands ready, and is written if the input has ended.
-fn close(bytes: u64, number: u64, held: usize, ended: bool, lines: &mut [u8]) -> Served
+fn close(name: &[u8], bytes: u64, number: u64, held: usize, ended: bool, lines: &mut [u8]) -> Served
     requires { ⌜ length (now lines) ≡ 1024 * lineRoom ⌝ }
     ensures counts { λ r. ⌜ (r .bytes ≡ bytes) × (r .number ≡ number) ⌝ }
     ensures line { λ r. ⌜ Puts (now (lines .entry)) 0 (traceText (shortLine held)) (now (lines .exit)) (r .next) ⌝ }
@@ -93,7 +46,7 @@ fn close(bytes: u64, number: u64, held: usize, ended: bool, lines: &mut [u8]) ->
 {
     let next = replay::finish(held, lines);
     if ended {
-        written(lines, next);
+        streams::write_front(name, lines, next);
     }
     Served {
         bytes,
@@ -103,7 +56,7 @@ fn close(bytes: u64, number: u64, held: usize, ended: bool, lines: &mut [u8]) ->
 }
 
 // The whole input is traced, part by part. A failure is said on standard error and ends the trace.
-fn run(table: &mut [u8], lines: &mut [u8]) -> Served
+fn run(name: &[u8], table: &mut [u8], lines: &mut [u8]) -> Served
     requires { ⌜ length (now table) ≡ tableLength printer ⌝ }
     requires { ⌜ length (now lines) ≡ 1024 * lineRoom ⌝ }
     ensures { λ r. ⌜ Ended (now (table .entry)) (r .bytes) (r .number) (now (table .exit)) (take (r .next) (now (lines .exit))) ⌝ }
@@ -112,27 +65,27 @@ fn run(table: &mut [u8], lines: &mut [u8]) -> Served
     let mut bytes: u64 = 0;
     let mut number: u64 = 0;
     let mut held: usize = 0;
-    let mut reads = READS;
+    let mut reads = streams::READS;
     while 0 < reads {
-        let come = read_behind(&mut block, held);
+        let come = streams::read_behind(name, &mut block, held);
         let n = come.n;
         if n == held {
-            return close(bytes, number, held, !come.failed, lines);
+            return close(name, bytes, number, held, !come.failed, lines);
         }
         bytes += (n - held) as u64;
         let served = replay::serve(table, number, &mut block, n, lines);
         number = served.number;
         held = served.held;
-        if !written(lines, served.next) {
-            return close(bytes, number, held, false, lines);
+        if !streams::write_front(name, lines, served.next) {
+            return close(name, bytes, number, held, false, lines);
         }
         reads -= 1;
     }
-    close(bytes, number, held, false, lines)
+    close(name, bytes, number, held, false, lines)
 }
 
 fn main() {
     let mut table = replay::fresh();
     let mut lines = empty_lines();
-    run(&mut table, &mut lines);
+    run(b"trace", &mut table, &mut lines);
 }

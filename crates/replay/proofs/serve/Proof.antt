@@ -9,7 +9,7 @@ use lib.ListN.{length, take, drop}
 use denote.Ref.{now}
 use lib.Seq.{sets, length-take-le}
 use Rattle.rules.specs.Requests.{requestLength}
-use Rattle.replay.specs.Replay.{leftOver}
+use Rattle.parts.specs.LeftOver.{leftOver}
 use Rattle.replay.proofs.serve.Statement.{statement}
 use Rattle.replay.proofs.serve.Tie as tie
 

@@ -1,9 +1,9 @@
--- `trace::read_behind` meets its contract: the part that is lent to the read begins behind what is held. Assumes nothing.
-use borrow.Author.Needs.{needs}
+-- `streams::read_behind` meets its contract: the part that is lent to the read begins behind what is held. Assumes nothing.
 use native.Mathlib.Omega.{arith}
 use lib.Seq.{take-at, length-take-le}
-use Rattle.trace.proofs.read_behind.Statement.{statement}
-use Rattle.trace.proofs.read_behind.Tie as tie
+use borrow.Author.Needs.{needs}
+use Rattle.streams.proofs.read_behind.Statement.{statement}
+use Rattle.streams.proofs.read_behind.Tie as tie
 
 sub-read : tie.Need-sub-read
 sub-read c = search needs
@@ -29,19 +29,20 @@ part-count-end c = search needs
 count-requires : tie.Need-count-requires
 count-requires c κs = search needs
 
-say-unread-requires : tie.Need-say-unread-requires
-say-unread-requires c κs = search needs
+slice-aggregate-say : tie.Need-slice-aggregate-say
+slice-aggregate-say c = search needs
 
-add-t6 : tie.Need-add-t6
-add-t6 c = search needs
+say-requires : tie.Need-say-requires
+say-requires c κs = search needs
+
+add-t8 : tie.Need-add-t8
+add-t8 c = search needs
 
 same-length : tie.Need-same-length
 same-length c = search needs
 
 returns : tie.Need-returns
-returns c =
-    let start = c .before .before .before .before .before .before .before .before .before in
-    ((omega arith, omega arith), take-at _ _ _ (length-take-le _ _ (start .pre)))
+returns c = ((omega arith, omega arith), take-at _ _ _ (length-take-le _ _ (c .before .before .before .before .before .before .before .before .before .before .pre)))
 
 pub read-behind-spec : {M : Type 1} → statement M
 read-behind-spec =
@@ -55,7 +56,8 @@ read-behind-spec =
     part-count-start
     part-count-end
     count-requires
-    say-unread-requires
-    add-t6
+    slice-aggregate-say
+    say-requires
+    add-t8
     same-length
     returns)

@@ -1,4 +1,4 @@
--- `replay::keep` meets its contract: at each turn the bytes before `i` have moved. Assumes nothing.
+-- `parts::keep` meets its contract: at each turn the bytes before `i` have moved. Assumes nothing.
 use borrow.Author.Needs.{needs}
 use native.Mathlib.Omega.{arith}
 use mathlib.Core.Path.{_≡_, refl, ap, _∙_}
@@ -6,9 +6,9 @@ use Prim.Native.Nat.{_+_, _-_, _≤_}
 use lib.ListN.{length, getD, set, take, drop, length-set}
 use denote.Ref.{now}
 use lib.Seq.{sets}
-use Rattle.replay.proofs.Kept.{kept-more, kept-all}
-use Rattle.replay.proofs.keep.Statement.{statement}
-use Rattle.replay.proofs.keep.Tie as tie
+use Rattle.parts.proofs.Kept.{kept-more, kept-all}
+use Rattle.parts.proofs.keep.Statement.{statement}
+use Rattle.parts.proofs.keep.Tie as tie
 
 abbrev Inv-loop : tie.InvT-loop
 Inv-loop block₀ from n held i₀ block i = (length block ≡ length block₀) × (i ≤ held) × (block ≡ sets block₀ 0 (take i (drop from (take n block₀))))

@@ -1,0 +1,150 @@
+-- All that has come so far comes to what is done and what is held: whatever comes after it, the whole is what is done and then what comes of the rest.
+-- Assumes nothing.
+use mathlib.Core.Path.{_≡_, refl, sym, ap, subst, _∙_}
+use mathlib.Core.Bool.{Bool, true, false, _||_}
+use mathlib.Core.List.{List, [], _∷_, _++_, append-nil, append-assoc}
+use mathlib.Core.Option.{Option, none, some}
+use Prim.Native.Nat.{ℕ, _+_, _-_, _≤_, _<_}
+use native.Mathlib.Omega.{arith}
+use lib.Dec.{ltb}
+use lib.ListN.{length, length-append, take, drop}
+use lib.Seq.{sets, length-take-le}
+use borrow.Author.Tests.{lt-ltb, le-ltb}
+use Rattle.rules.specs.Basic.{if_then_else_}
+use Rattle.laws.proofs.Split.{is, isnt, test}
+use Rattle.text.specs.Puts.{Puts}
+use Rattle.text.proofs.Putting.{front, puts-front}
+use Rattle.parts.proofs.Behind.{come, part-size}
+use Rattle.writer.specs.Listing.{Out, cut, turnedFrom, turned, refusalText}
+use Rattle.writer.specs.Parts.{partOf, stops, holds, isSome}
+use Rattle.writer.specs.declared.Way.{Way}
+use Rattle.writer.proofs.Cuts.{Open, left-open, none-open}
+use Rattle.writer.proofs.InParts.{before, goes-on, stops-there, last-open, holds-all, holds-room}
+use Rattle.exchange.specs.Going.{Ended}
+
+-- so many bytes have come, `number` lines or records of them are done, and none of them is bad; these bytes are held
+pub record Going (w : Way) (bytes number : ℕ) (held : List ℕ) : Type 0 where
+  pub seen : List ℕ
+  pub done : List (List ℕ)
+  pub size : length seen ≡ bytes
+  pub count : length done ≡ number
+  pub left : Open w held
+  pub whole : (more : List ℕ) → turned w (seen ++ more) ≡ before done (turnedFrom w number (held ++ more))
+
+-- a bad one has stopped it
+pub record Stopped (w : Way) (bytes number : ℕ) : Type 0 where
+  pub seen : List ℕ
+  pub done : List (List ℕ)
+  pub size : length seen ≡ bytes
+  pub count : length done ≡ number
+  pub whole : turned w seen ≡ record { done = done; bad = some number }
+
+pub none-seen : (w : Way) (block : List ℕ) → Going w 0 0 (take 0 block)
+none-seen w block = record { seen = []; done = []; size = refl; count = refl; left = none-open w; whole = λ more. refl }
+
+module _ {w : Way} {bytes number : ℕ} {held : List ℕ} (g : Going w bytes number held) (part : List ℕ) where
+  abbrev now : List ℕ
+  now = held ++ part
+
+  joins : (more : List ℕ) → turned w ((g .seen ++ part) ++ more) ≡ before (g .done) (turnedFrom w number (now ++ more))
+  joins more =
+      ap (turned w) (append-assoc (g .seen) part more) ∙ g .whole (part ++ more) ∙ ap (λ (l : List ℕ). before (g .done) (turnedFrom w number l)) (sym (append-assoc held part more))
+
+  size-on : length (g .seen ++ part) ≡ bytes + length part
+  size-on = length-append (g .seen) part ∙ ap (λ (k : ℕ). k + length part) (g .size)
+
+  count-on : length (g .done ++ partOf w now .done) ≡ number + length (partOf w now .done)
+  count-on = length-append (g .done) (partOf w now .done) ∙ ap (λ (k : ℕ). k + length (partOf w now .done)) (g .count)
+
+  going-on : stops w now ≡ false → Going w (bytes + length part) (number + length (partOf w now .done)) (holds w now)
+  going-on e = record {
+    seen = g .seen ++ part;
+    done = g .done ++ partOf w now .done;
+    size = size-on;
+    count = count-on;
+    left = subst (Open w) (sym (holds-all w now e)) (left-open w now);
+    whole = λ more.
+        let rest = turnedFrom w (number + length (partOf w now .done)) (cut w now .rest ++ more) in
+        joins more
+        ∙ ap (before (g .done)) (goes-on w number now more e .1)
+        ∙ ap (λ (d : List (List ℕ)). record { done = d; bad = rest .bad }) (sym (append-assoc (g .done) (partOf w now .done) (rest .done)))
+        ∙ ap (λ (l : List ℕ). before (g .done ++ partOf w now .done) (turnedFrom w (number + length (partOf w now .done)) (l ++ more))) (sym (holds-all w now e));
+  }
+
+  stopped-by : stops w now ≡ true → Stopped w (bytes + length part) (number + length (partOf w now .done))
+  stopped-by e = record {
+    seen = g .seen ++ part;
+    done = g .done ++ partOf w now .done;
+    size = size-on;
+    count = count-on;
+    whole = ap (turned w) (sym (append-nil (g .seen ++ part))) ∙ joins [] ∙ ap (before (g .done)) (stops-there w number now [] e);
+  }
+
+-- THE END
+
+some-held : (l : List ℕ) → isSome l ≡ ltb 0 (length l)
+some-held [] = refl
+some-held (c ∷ cs) = sym (lt-ltb 0 (length (c ∷ cs)) (omega arith))
+
+module _ {w : Way} {bytes bytes′ number number′ : ℕ} {out out′ : List ℕ} {next : ℕ} (eb : bytes′ ≡ bytes) (en : number′ ≡ number) (room : next ≤ length out) where
+  pub ended-going : (block : List ℕ) (held : ℕ) → held ≤ length block → Going w bytes number (take held block)
+      → Puts out 0 (refusalText w (if ltb 0 held then some number else none)) out′ next → Ended w bytes′ number′ (take next out′)
+  ended-going block held inside g p =
+      let l = take held block in
+      let some-left : isSome l ≡ ltb 0 held = some-held l ∙ ap (λ (k : ℕ). ltb 0 k) (length-take-le held block inside) in
+      let whole : turned w (g .seen) ≡ record { done = g .done; bad = if ltb 0 held then some number else none } =
+      ap (turned w) (sym (append-nil (g .seen)))
+      ∙ g .whole []
+      ∙ ap (λ (x : List ℕ). before (g .done) (turnedFrom w number x)) (append-nil l)
+      ∙ ap (before (g .done)) (last-open w number l (g .left))
+      ∙ (λ j. record { done = append-nil (g .done) j; bad = if some-left j then some number else none }) in
+      record {
+        seen = g .seen;
+        size = g .size ∙ sym eb;
+        count = ap (λ (o : Out). length (o .done)) whole ∙ g .count ∙ sym en;
+        says = puts-front p room ∙ ap (λ (o : Out). refusalText w (o .bad)) (sym whole);
+      }
+
+  pub ended-stopped : Stopped w bytes number → Puts out 0 (refusalText w (some number)) out′ next → Ended w bytes′ number′ (take next out′)
+  ended-stopped s p = record {
+    seen = s .seen;
+    size = s .size ∙ sym eb;
+    count = ap (λ (o : Out). length (o .done)) (s .whole) ∙ s .count ∙ sym en;
+    says = puts-front p room ∙ ap (λ (o : Out). refusalText w (o .bad)) (sym (s .whole));
+  }
+
+-- READS
+
+-- so many bytes are held at the front of the block and stay, and a read has put others behind them
+module _ {w : Way} {bytes number : ℕ} (block block′ : List ℕ) (held n : ℕ) (stay : take held block′ ≡ take held block) (behind : held ≤ n) (inside : n ≤ length block′)
+    (g : Going w bytes number (take held block)) where
+  abbrev all : List ℕ
+  all = take n block′
+
+  -- what the turn of the part leaves
+  module _ {block″ : List ℕ} {number′ held′ : ℕ} (count : number′ ≡ number + length (partOf w all .done)) (few : held′ ≡ length (holds w all))
+      (kept : block″ ≡ sets block′ 0 (holds w all)) where
+    pub turned-on : stops w all ≡ false → Going w (bytes + (n - held)) number′ (take held′ block″)
+    turned-on e =
+        let c = come block block′ held n stay behind inside in
+        let back : take held′ block″ ≡ holds w all = (λ j. take (few j) (kept j)) ∙ front block′ (holds w all) (omega (arith, holds-room w all, length-take-le n block′ inside)) in
+        let grown : Going w (bytes + (n - held)) (number + length (partOf w all .done)) (holds w all) =
+        rw (part-size block block′ held n stay behind inside, c) at (going-on g (drop held (take n block′)) (ap (stops w) c ∙ e)) in
+        rw (count, back) grown
+
+    pub turned-last : stops w all ≡ true → Stopped w (bytes + (n - held)) number′
+    turned-last e =
+        let c = come block block′ held n stay behind inside in
+        let grown : Stopped w (bytes + (n - held)) (number + length (partOf w all .done)) =
+        rw (part-size block block′ held n stay behind inside, c) at (stopped-by g (drop held (take n block′)) (ap (stops w) c ∙ e)) in
+        rw count grown
+
+    -- what is said of the part where the run ends behind it
+    pub turned-end : {bytes′ number″ : ℕ} {out out′ : List ℕ} {next : ℕ} (stopped : Bool) → stopped ≡ stops w all → bytes′ ≡ bytes + (n - held) → number″ ≡ number′ → next ≤ length out
+        → held′ ≤ length block″ → Puts out 0 (refusalText w (if stopped || ltb 0 held′ then some number′ else none)) out′ next → Ended w bytes′ number″ (take next out′)
+    turned-end true e eb en room few p = ended-stopped eb en room (turned-last (sym e)) p
+    turned-end false e eb en room few p = ended-going eb en room block″ held′ few (turned-on (sym e)) p
+
+-- a read has put nothing behind them
+pub same-held : {w : Way} {bytes number : ℕ} (block block′ : List ℕ) (held : ℕ) → take held block′ ≡ take held block → Going w bytes number (take held block) → Going w bytes number (take held block′)
+same-held {w} {bytes} {number} block block′ held e g = subst (Going w bytes number) (sym e) g

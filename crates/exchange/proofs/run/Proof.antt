@@ -1,0 +1,130 @@
+-- `exchange::run` meets its contract: all that has come is what is done and what is held, from read to read; the reads that are left fall.
+-- Assumes nothing.
+use native.Mathlib.Omega.{arith}
+use mathlib.Core.Path.{_≡_, refl, sym, ap, _∙_}
+use Prim.Native.Nat.{_+_, _*_, _≤_}
+use lib.ListN.{length, take}
+use lib.Seq.{length-take-le}
+use borrow.Author.Needs.{needs}
+use mathlib.Core.Bool.{not}
+use Rattle.laws.proofs.Split.{or-false}
+use Rattle.writer.proofs.InParts.{holds-room}
+use Rattle.exchange.proofs.Turns.{Going, none-seen, turned-on, turned-end, same-held, ended-going}
+use Rattle.exchange.proofs.run.Statement.{statement}
+use Rattle.exchange.proofs.run.Tie as tie
+
+abbrev Inv-loop : tie.InvT-loop
+Inv-loop name way out₀ block₀ bytes₀ number₀ held₀ reads₀ out block bytes number held reads =
+    (length out ≡ length out₀) × (length block ≡ 12288) × (held ≤ 12288)
+    × (number + 12288 * reads ≤ 13835058055282163712) × (bytes + 12288 * reads ≤ 13835058055282163712) × Going way bytes number (take held block)
+
+abbrev μ-loop : tie.MeasureT-loop
+μ-loop name way out₀ block₀ bytes₀ number₀ held₀ reads₀ out block bytes number held reads = reads
+
+empty-block-requires : tie.Need-empty-block-requires Inv-loop μ-loop
+empty-block-requires c κs = search needs
+
+loop-holds : tie.Need-loop-holds Inv-loop μ-loop
+loop-holds c = (refl, sym (c .empty-block .ensures), omega arith, omega arith, omega arith, none-seen (c .before .before .before .args .way) (c .empty-block .result))
+
+slice-aggregate-read-behind : tie.Need-slice-aggregate-read-behind Inv-loop μ-loop
+slice-aggregate-read-behind c = search needs
+
+read-behind-requires : tie.Need-read-behind-requires Inv-loop μ-loop
+read-behind-requires c κs = search needs
+
+close-requires : tie.Need-close-requires Inv-loop μ-loop
+close-requires c κs = search needs
+
+same-length : tie.Need-same-length Inv-loop μ-loop
+same-length c = search needs
+
+returns : tie.Need-returns Inv-loop μ-loop
+returns c =
+    ended-going (c .before .before .close .ensures .0 .0) (c .before .before .close .ensures .0 .1) (omega (arith, c .before .before .close .ensures .1 .1, c .before .before .before .before .before .before .before .before .before .before .loop .inv .0, c .before .before .before .before .before .before .before .before .before .before .before .before .before .before .pre)) (c .before .before .before .before .before .before .before .read-behind .last .1 .0) (c .before .before .before .before .before .before .before .before .before .before .loop .held) (omega (arith, c .before .before .before .before .before .before .before .read-behind .ensures .0))
+    (same-held (c .before .before .before .before .before .before .before .before .before .before .loop .block) (c .before .before .before .before .before .before .before .read-behind .last .1 .0) (c .before .before .before .before .before .before .before .before .before .before .loop .held) (c .before .before .before .before .before .before .before .read-behind .ensures .1) (c .before .before .before .before .before .before .before .before .before .before .loop .inv .5)) (c .before .before .close .ensures .1 .0)
+
+sub-bytes : tie.Need-sub-bytes Inv-loop μ-loop
+sub-bytes c = search needs
+
+add-bytes : tie.Need-add-bytes Inv-loop μ-loop
+add-bytes c = search needs
+
+slice-aggregate-turn : tie.Need-slice-aggregate-turn Inv-loop μ-loop
+slice-aggregate-turn c = search needs
+
+turn-requires : tie.Need-turn-requires Inv-loop μ-loop
+turn-requires c κs = search needs
+
+write-front-requires : tie.Need-write-front-requires Inv-loop μ-loop
+write-front-requires c κs = search needs
+
+close-requires-2 : tie.Need-close-requires-2 Inv-loop μ-loop
+close-requires-2 c κs = search needs
+
+same-length-2 : tie.Need-same-length-2 Inv-loop μ-loop
+same-length-2 c = c .before .before .close2 .kept .1 .1 .1 .1 .1 .0 ∙ c .before .before .before .before .before .before .before .before .before .before .before .before .turn .kept .1 .1 .1 .1 .0 ∙ c .before .before .before .before .before .before .before .before .before .before .before .before .before .before .before .before .before .before .before .before .loop .inv .0
+
+returns-2 : tie.Need-returns-2 Inv-loop μ-loop
+returns-2 c =
+    turned-end (c .before .before .before .before .before .before .before .before .before .before .before .before .before .before .before .before .before .before .before .before .loop .block) (c .before .before .before .before .before .before .before .before .before .before .before .before .before .before .before .before .before .read-behind .last .1 .0) (c .before .before .before .before .before .before .before .before .before .before .before .before .before .before .before .before .before .before .before .before .loop .held) (c .before .before .before .before .before .before .before .before .before .before .before .before .before .before .before .before .before .read-behind .result .n) (c .before .before .before .before .before .before .before .before .before .before .before .before .before .before .before .before .before .read-behind .ensures .1) (c .before .before .before .before .before .before .before .before .before .before .before .before .before .before .before .before .before .read-behind .ensures .0 .0) (c .before .before .before .before .before .before .before .before .before .before .before .before .before .before .before .before .before .read-behind .ensures .0 .1) (c .before .before .before .before .before .before .before .before .before .before .before .before .before .before .before .before .before .before .before .before .loop .inv .5) (c .before .before .before .before .before .before .before .before .before .before .before .before .turn .ensures .0) (c .before .before .before .before .before .before .before .before .before .before .before .before .turn .ensures .1 .1 .1 .0) (c .before .before .before .before .before .before .before .before .before .before .before .before .turn .ensures .1 .1 .1 .1 .0) (c .before .before .before .before .before .before .before .before .before .before .before .before .turn .result .stopped) (c .before .before .before .before .before .before .before .before .before .before .before .before .turn .ensures .1 .1 .0)
+    (c .before .before .close2 .ensures .0 .0) (c .before .before .close2 .ensures .0 .1) (omega (arith, c .before .before .close2 .ensures .1 .1, c .before .before .before .before .before .before .before .before .before .before .before .before .turn .kept .1 .1 .1 .1 .0, c .before .before .before .before .before .before .before .before .before .before .before .before .before .before .before .before .before .before .before .before .loop .inv .0, c .before .before .before .before .before .before .before .before .before .before .before .before .before .before .before .before .before .before .before .before .before .before .before .before .pre))
+    (omega (arith, c .before .before .before .before .before .before .before .before .before .before .before .before .turn .ensures .1 .1 .1 .0, holds-room (c .before .before .before .before .before .before .before .before .before .before .before .before .before .before .before .before .before .before .before .before .before .before .before .before .args .way) (take (c .before .before .before .before .before .before .before .before .before .before .before .before .before .before .before .before .before .read-behind .result .n) (c .before .before .before .before .before .before .before .before .before .before .before .before .before .before .before .before .before .read-behind .last .1 .0)), length-take-le (c .before .before .before .before .before .before .before .before .before .before .before .before .before .before .before .before .before .read-behind .result .n) (c .before .before .before .before .before .before .before .before .before .before .before .before .before .before .before .before .before .read-behind .last .1 .0) (c .before .before .before .before .before .before .before .before .before .before .before .before .before .before .before .before .before .read-behind .ensures .0 .1), c .before .before .before .before .before .before .before .before .before .before .before .before .before .before .before .before .before .read-behind .ensures .0, c .before .before .before .before .before .before .before .before .before .before .before .before .turn .kept .1 .1 .0))
+    (c .before .before .close2 .ensures .1 .0)
+
+sub-reads : tie.Need-sub-reads Inv-loop μ-loop
+sub-reads c = search needs
+
+loop-less : tie.Need-loop-less Inv-loop μ-loop
+loop-less c = search needs
+
+loop-again : tie.Need-loop-again Inv-loop μ-loop
+loop-again c =
+    let size = length-take-le (c .before .before .before .before .before .before .before .before .before .before .before .before .read-behind .result .n) (c .before .before .before .before .before .before .before .before .before .before .before .before .read-behind .last .1 .0) (c .before .before .before .before .before .before .before .before .before .before .before .before .read-behind .ensures .0 .1) in
+    let some = c .before .before .before .before .before .before .before .before .before .before .before .before .before .before .loop-test .taken in (
+      c .before .before .before .before .before .before .before .turn .kept .1 .1 .1 .1 .0 ∙ c .before .before .before .before .before .before .before .before .before .before .before .before .before .before .before .loop .inv .0,
+      c .before .before .before .before .before .before .before .turn .kept .1 .1 .0 ∙ c .before .before .before .before .before .before .before .before .before .before .before .before .read-behind .kept .1 .0 ∙ c .before .before .before .before .before .before .before .before .before .before .before .before .before .before .before .loop .inv .1,
+      omega (arith, c .before .before .before .before .before .before .before .turn .ensures .1 .1 .1 .0, holds-room (c .before .before .before .before .before .before .before .before .before .before .before .before .before .before .before .before .before .before .before .args .way) (take (c .before .before .before .before .before .before .before .before .before .before .before .before .read-behind .result .n) (c .before .before .before .before .before .before .before .before .before .before .before .before .read-behind .last .1 .0)), size, c .before .before .before .before .before .before .before .before .before .before .before .before .read-behind .ensures .0, c .before .before .before .before .before .before .before .before .before .before .before .before .read-behind .kept .1 .0, c .before .before .before .before .before .before .before .before .before .before .before .before .before .before .before .loop .inv .1),
+      omega (arith, c .before .before .before .before .before .before .before .turn .ensures .1 .0, c .before .before .before .before .before .before .before .before .before .before .before .before .read-behind .ensures .0, c .before .before .before .before .before .before .before .before .before .before .before .before .read-behind .kept .1 .0, c .before .before .before .before .before .before .before .before .before .before .before .before .before .before .before .loop .inv .1, c .before .before .before .before .before .before .before .before .before .before .before .before .before .before .before .loop .inv .3, some),
+      omega (arith, c .before .before .before .before .before .before .before .before .before .before .before .before .read-behind .ensures .0, c .before .before .before .before .before .before .before .before .before .before .before .before .read-behind .kept .1 .0, c .before .before .before .before .before .before .before .before .before .before .before .before .before .before .before .loop .inv .1, c .before .before .before .before .before .before .before .before .before .before .before .before .before .before .before .loop .inv .4, some),
+      turned-on (c .before .before .before .before .before .before .before .before .before .before .before .before .before .before .before .loop .block) (c .before .before .before .before .before .before .before .before .before .before .before .before .read-behind .last .1 .0) (c .before .before .before .before .before .before .before .before .before .before .before .before .before .before .before .loop .held) (c .before .before .before .before .before .before .before .before .before .before .before .before .read-behind .result .n) (c .before .before .before .before .before .before .before .before .before .before .before .before .read-behind .ensures .1) (c .before .before .before .before .before .before .before .before .before .before .before .before .read-behind .ensures .0 .0) (c .before .before .before .before .before .before .before .before .before .before .before .before .read-behind .ensures .0 .1) (c .before .before .before .before .before .before .before .before .before .before .before .before .before .before .before .loop .inv .5) (c .before .before .before .before .before .before .before .turn .ensures .0) (c .before .before .before .before .before .before .before .turn .ensures .1 .1 .1 .0) (c .before .before .before .before .before .before .before .turn .ensures .1 .1 .1 .1 .0) (sym (c .before .before .before .before .before .before .before .turn .ensures .1 .1 .0) ∙ or-false (c .before .before .before .before .before .before .before .turn .result .stopped) (not (c .before .before .write-front .result)) (c .if2 .left) .0),
+    )
+
+close-requires-3 : tie.Need-close-requires-3 Inv-loop μ-loop
+close-requires-3 c κs = search needs
+
+same-length-3 : tie.Need-same-length-3 Inv-loop μ-loop
+same-length-3 c = search needs
+
+returns-3 : tie.Need-returns-3 Inv-loop μ-loop
+returns-3 c =
+    ended-going (c .before .before .close3 .ensures .0 .0) (c .before .before .close3 .ensures .0 .1) (omega (arith, c .before .before .close3 .ensures .1 .1, c .before .before .before .before .before .loop .inv .0, c .before .before .before .before .before .before .before .before .before .pre)) (c .before .before .before .before .before .loop .block) (c .before .before .before .before .before .loop .held) (omega (arith, c .before .before .before .before .before .loop .inv .1, c .before .before .before .before .before .loop .inv .2))
+    (c .before .before .before .before .before .loop .inv .5) (c .before .before .close3 .ensures .1 .0)
+
+pub run-spec : {M : Type 1} → statement M
+run-spec =
+    tie.close
+    (tie.spec
+    Inv-loop
+    μ-loop
+    empty-block-requires
+    loop-holds
+    slice-aggregate-read-behind
+    read-behind-requires
+    close-requires
+    same-length
+    returns
+    sub-bytes
+    add-bytes
+    slice-aggregate-turn
+    turn-requires
+    write-front-requires
+    close-requires-2
+    same-length-2
+    returns-2
+    sub-reads
+    loop-less
+    loop-again
+    close-requires-3
+    same-length-3
+    returns-3)

@@ -1,0 +1,2 @@
+-- What the programs over a listing keep true from read to read.
+pub mod Going

@@ -1,0 +1,7 @@
+// The program `list`: request records on standard input, their listing on standard output.
+use writer::Way;
+
+fn main() {
+    let mut out = [0u8; exchange::OUT];
+    exchange::run(b"list", Way::ToListing, &mut out);
+}

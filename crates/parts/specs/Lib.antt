@@ -1,0 +1,2 @@
+-- What is left over of a part.
+pub mod LeftOver

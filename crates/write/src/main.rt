@@ -1,0 +1,7 @@
+// The program `write`: a listing on standard input, its request records on standard output.
+use writer::Way;
+
+fn main() {
+    let mut out = [0u8; exchange::OUT];
+    exchange::run(b"write", Way::ToRecords, &mut out);
+}
