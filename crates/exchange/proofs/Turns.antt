@@ -15,11 +15,11 @@ use Rattle.laws.proofs.Split.{is, isnt, test}
 use Rattle.text.specs.Puts.{Puts}
 use Rattle.text.proofs.Putting.{front, puts-front}
 use Rattle.parts.proofs.Behind.{come, part-size}
-use Rattle.writer.specs.Listing.{Out, cut, turnedFrom, turned, refusalText}
-use Rattle.writer.specs.Parts.{partOf, stops, holds, isSome}
-use Rattle.writer.specs.declared.Way.{Way}
-use Rattle.writer.proofs.Cuts.{Open, left-open, none-open}
-use Rattle.writer.proofs.InParts.{before, goes-on, stops-there, last-open, holds-all, holds-room}
+use Rattle.listing.specs.Listing.{Out, cut, turnedFrom, turned, refusalText}
+use Rattle.listing.specs.Parts.{partOf, stops, holds, isSome}
+use Rattle.listing.specs.declared.Way.{Way}
+use Rattle.listing.proofs.Cuts.{Open, left-open, none-open}
+use Rattle.listing.proofs.InParts.{before, goes-on, stops-there, last-open, holds-all, holds-room}
 use Rattle.exchange.specs.Going.{Ended}
 
 -- so many bytes have come, `number` lines or records of them are done, and none of them is bad; these bytes are held

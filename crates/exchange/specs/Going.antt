@@ -4,8 +4,8 @@ use mathlib.Core.Path.{_≡_}
 use mathlib.Core.List.{List}
 use Prim.Native.Nat.{ℕ}
 use lib.ListN.{length}
-use Rattle.writer.specs.Listing.{turned, refusalText}
-use Rattle.writer.specs.declared.Way.{Way}
+use Rattle.listing.specs.Listing.{turned, refusalText}
+use Rattle.listing.specs.declared.Way.{Way}
 
 -- the run ends: so many bytes have come, `number` of their lines or records are done, up to the first that is bad, and `said` is what is said of that
 -- one

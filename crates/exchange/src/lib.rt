@@ -7,10 +7,10 @@ ghost use mathlib.Core.Path.{_≡_};
 ghost use lib.ListN.{length, take};
 ghost use Rattle.rules.specs.Basic.{if_then_else_};
 ghost use Rattle.text.specs.Puts.{Puts};
-ghost use Rattle.writer.specs.Listing.{refusalText};
+ghost use Rattle.listing.specs.Listing.{refusalText};
 ghost use Rattle.writer.specs.Places.{partRoom, refusalRoom};
 ghost use Rattle.exchange.specs.Going.{Ended};
-use writer::Way;
+use listing::Way;
 
 // A block holds 1,024 records, so that a file's reads leave nothing over.
 const BLOCK: usize = 12288;

@@ -1,5 +1,5 @@
 // The program `list`: request records on standard input, their listing on standard output.
-use writer::Way;
+use listing::Way;
 
 fn main() {
     let mut out = [0u8; exchange::OUT];

@@ -101,6 +101,7 @@ each = record {
   time-unlock = λ κs a z z′ ws ws′ h p q. let d = does-one (h .whole) p q in (d .1, first (d .0));
   -- request
   request-decode = λ κs a z z′ ws ws′ h p q. (p ∙ sym q, refl);
+  request-request-of = λ κs a z z′ ws ws′ h p q. (p ∙ sym q, refl);
   -- answer
   answer-code = λ κs a z z′ ws ws′ h p q. (p ∙ sym q, refl);
   answer-put-answer = λ κs a z z′ ws ws′ h p q. (refl, first (p ∙ sym q));
@@ -111,11 +112,25 @@ each = record {
   reader-read-from = λ κs a z z′ ws ws′ h p q. (p ∙ sym q, refl);
   -- text
   text-put-byte = λ κs a z z′ ws ws′ h p q. let d = puts-tight p q in (d .1, first (d .0));
+  text-put-bytes = λ κs a z z′ ws ws′ h p q. let d = puts-tight p q in (d .1, first (d .0));
   text-put-field = λ κs a z z′ ws ws′ h p q. let d = puts-tight (p .0) (q .0) in (d .1, first (d .0));
   text-put-line = λ κs a z z′ ws ws′ h p q. let d = puts-tight (p .0) (q .0) in (d .1, first (d .0));
   text-put-number = λ κs a z z′ ws ws′ h p q. let d = puts-tight p q in (d .1, first (d .0));
   text-put-short = λ κs a z z′ ws ws′ h p q. let d = puts-tight (p .0) (q .0) in (d .1, first (d .0));
   text-put-signed = λ κs a z z′ ws ws′ h p q. let d = puts-tight p q in (d .1, first (d .0));
+  -- parts
+  parts-keep = λ κs a z z′ ws ws′ h p q. (p .0 ∙ sym (q .0), first (p .1 ∙ sym (q .1)));
+  -- writer
+  writer-refuse = λ κs a z z′ ws ws′ h p q. let d = puts-tight (p .0) (q .0) in (d .1, λ j. (ws .0, (ws .1 .0, (ws .1 .1 .0, (d .0 j, ws .1 .1 .1 .1)))));
+  writer-turn = λ κs a z z′ ws ws′ h p q. let d = puts-tight (p .1 .1 .1 .1 .1 .0) (q .1 .1 .1 .1 .1 .0) in (
+    λ j. record {
+      number = (p .0 ∙ sym (q .0)) j;
+      held = (p .1 .1 .1 .0 ∙ sym (q .1 .1 .1 .0)) j;
+      next = d .1 j;
+      stopped = (p .1 .1 .0 ∙ sym (q .1 .1 .0)) j;
+    },
+    λ j. (ws .0, (ws .1 .0, ((p .1 .1 .1 .1 .0 ∙ sym (q .1 .1 .1 .1 .0)) j, (ws .1 .1 .1 .0, (d .0 j, ws .1 .1 .1 .1 .1))))),
+  );
   -- replay
   replay-finish = λ κs a z z′ ws ws′ h p q. let d = puts-tight (p .0) (q .0) in (d .1, λ j. (ws .0, (d .0 j, ws .1 .1)));
   replay-fresh = λ κs a z z′ ws ws′ h p q. (p ∙ sym q, refl);

@@ -15,6 +15,8 @@ use Rattle.answer.proofs as answer
 use Rattle.kernel.proofs as kernel
 use Rattle.reader.proofs as reader
 use Rattle.text.proofs as text
+use Rattle.parts.proofs as parts
+use Rattle.writer.proofs as writer
 use Rattle.replay.proofs as replay
 use Rattle.tight.specs.Promise.{Determines}
 
@@ -107,6 +109,7 @@ pub record Each : Type 1 where
   pub time-unlock : Determines time.unlock.Kinds.ps time.unlock.Kinds.r time.unlock.Reads.Pre time.unlock.Reads.Post
   -- request
   pub request-decode : Determines request.decode.Kinds.ps request.decode.Kinds.r request.decode.Reads.Pre request.decode.Reads.Post
+  pub request-request-of : Determines request.request_of.Kinds.ps request.request_of.Kinds.r request.request_of.Reads.Pre request.request_of.Reads.Post
   -- answer
   pub answer-code : Determines answer.code.Kinds.ps answer.code.Kinds.r answer.code.Reads.Pre answer.code.Reads.Post
   pub answer-put-answer : Determines answer.put_answer.Kinds.ps answer.put_answer.Kinds.r answer.put_answer.Reads.Pre answer.put_answer.Reads.Post
@@ -117,11 +120,17 @@ pub record Each : Type 1 where
   pub reader-read-from : Determines reader.read_from.Kinds.ps reader.read_from.Kinds.r reader.read_from.Reads.Pre reader.read_from.Reads.Post
   -- text
   pub text-put-byte : Determines text.put_byte.Kinds.ps text.put_byte.Kinds.r text.put_byte.Reads.Pre text.put_byte.Reads.Post
+  pub text-put-bytes : Determines text.put_bytes.Kinds.ps text.put_bytes.Kinds.r text.put_bytes.Reads.Pre text.put_bytes.Reads.Post
   pub text-put-field : Determines text.put_field.Kinds.ps text.put_field.Kinds.r text.put_field.Reads.Pre text.put_field.Reads.Post
   pub text-put-line : Determines text.put_line.Kinds.ps text.put_line.Kinds.r text.put_line.Reads.Pre text.put_line.Reads.Post
   pub text-put-number : Determines text.put_number.Kinds.ps text.put_number.Kinds.r text.put_number.Reads.Pre text.put_number.Reads.Post
   pub text-put-short : Determines text.put_short.Kinds.ps text.put_short.Kinds.r text.put_short.Reads.Pre text.put_short.Reads.Post
   pub text-put-signed : Determines text.put_signed.Kinds.ps text.put_signed.Kinds.r text.put_signed.Reads.Pre text.put_signed.Reads.Post
+  -- parts
+  pub parts-keep : Determines parts.keep.Kinds.ps parts.keep.Kinds.r parts.keep.Reads.Pre parts.keep.Reads.Post
+  -- writer
+  pub writer-refuse : Determines writer.refuse.Kinds.ps writer.refuse.Kinds.r writer.refuse.Reads.Pre writer.refuse.Reads.Post
+  pub writer-turn : Determines writer.turn.Kinds.ps writer.turn.Kinds.r writer.turn.Reads.Pre writer.turn.Reads.Post
   -- replay
   pub replay-finish : Determines replay.finish.Kinds.ps replay.finish.Kinds.r replay.finish.Reads.Pre replay.finish.Reads.Post
   pub replay-fresh : Determines replay.fresh.Kinds.ps replay.fresh.Kinds.r replay.fresh.Reads.Pre replay.fresh.Reads.Post

@@ -1,5 +1,5 @@
 // The program `write`: a listing on standard input, its request records on standard output.
-use writer::Way;
+use listing::Way;
 
 fn main() {
     let mut out = [0u8; exchange::OUT];

@@ -10,13 +10,13 @@ use lib.ListN.{length, length-append, take, drop}
 use lib.Seq.{take-at}
 use Rattle.text.specs.Puts.{Puts}
 use Rattle.text.proofs.Putting.{_followed-by_}
-use Rattle.writer.specs.Listing.{Out, textOf, cut, rule, bytesOf, each}
-use Rattle.writer.specs.Parts.{partOf, isBad}
-use Rattle.writer.specs.Places.{inputOf, placeAfter, Block}
-use Rattle.writer.specs.declared.Way.{Way}
-use Rattle.writer.specs.declared.Way.the-variants.{ToRecords, ToListing}
-use Rattle.writer.proofs.Each.{each-on}
-use Rattle.writer.proofs.Cuts.{bytes-append, input-append}
+use Rattle.listing.specs.Listing.{Out, textOf, cut, inputOf, rule, bytesOf, each}
+use Rattle.listing.specs.Parts.{partOf, isBad}
+use Rattle.writer.specs.Places.{placeAfter, Block}
+use Rattle.listing.specs.declared.Way.{Way}
+use Rattle.listing.specs.declared.Way.the-variants.{ToRecords, ToListing}
+use Rattle.listing.proofs.Each.{each-on}
+use Rattle.listing.proofs.Cuts.{bytes-append, input-append}
 
 -- a piece stands at a place of the input, and another place is behind it
 pub record Next (w : Way) (input : List ℕ) (at : ℕ) (piece : List ℕ) (end : ℕ) : Type 0 where

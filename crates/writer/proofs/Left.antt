@@ -9,13 +9,13 @@ use native.Mathlib.Omega.{arith}
 use lib.ListN.{length, length-append, length-drop, take, drop}
 use lib.Seq.{drop-at, take-all}
 use Rattle.laws.proofs.Split.{clash, or-false}
-use Rattle.writer.specs.Listing.{cut, rule, each}
-use Rattle.writer.specs.Parts.{partOf, isBad, tooLong, stops, holds}
-use Rattle.writer.specs.Places.{inputOf, placeAfter, Block}
-use Rattle.writer.specs.declared.Way.{Way}
-use Rattle.writer.proofs.Each.{each-all}
-use Rattle.writer.proofs.Cuts.{cut-whole}
-use Rattle.writer.proofs.InParts.{holds-none, holds-all}
+use Rattle.listing.specs.Listing.{cut, inputOf, rule, each}
+use Rattle.listing.specs.Parts.{partOf, isBad, tooLong, stops, holds}
+use Rattle.writer.specs.Places.{placeAfter, Block}
+use Rattle.listing.specs.declared.Way.{Way}
+use Rattle.listing.proofs.Each.{each-all}
+use Rattle.listing.proofs.Cuts.{cut-whole}
+use Rattle.listing.proofs.InParts.{holds-none, holds-all}
 
 not-bad : (b : Option ℕ) → isBad b ≡ false → b ≡ none
 not-bad none e = refl

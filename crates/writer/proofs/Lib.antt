@@ -1,16 +1,6 @@
--- Laws of listing and writing.
-pub mod Numbers
-pub mod Fields
-pub mod Requests
-pub mod Trips
-pub mod Texts
-pub mod Each
-pub mod Cuts
-pub mod Back
-pub mod InParts
+-- Laws of places in a line and in a block.
 pub mod Places
 pub mod Taken
 pub mod Block
 pub mod Pieces
 pub mod Left
-pub mod Tried

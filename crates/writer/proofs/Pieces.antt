@@ -16,13 +16,13 @@ use Rattle.rules.specs.Trace.{records, wholeRecords}
 use Rattle.parts.proofs.Whole.{none-whole}
 use Rattle.laws.proofs.Split.{is, isnt, test, clash}
 use Rattle.text.specs.Puts.{Puts}
-use Rattle.writer.specs.Line.{lineOf, recordOf, numberFrom}
-use Rattle.writer.specs.Listing.{Cut, lineFeed, textOf, linesOf}
+use Rattle.listing.specs.Line.{lineOf, recordOf, numberFrom}
+use Rattle.listing.specs.Listing.{Cut, lineFeed, textOf, linesOf}
 use Rattle.writer.specs.Places.{lineEnd, given, isGiven, fed, listedRoom, Block}
-use Rattle.writer.specs.declared.Way.the-variants.{ToRecords, ToListing}
-use Rattle.writer.proofs.Numbers.{clean}
-use Rattle.writer.proofs.Texts.{first-line}
-use Rattle.writer.proofs.Back.{record-long}
+use Rattle.listing.specs.declared.Way.the-variants.{ToRecords, ToListing}
+use Rattle.listing.proofs.Numbers.{clean}
+use Rattle.listing.proofs.Texts.{first-line}
+use Rattle.listing.proofs.Back.{record-long}
 use Rattle.writer.proofs.Block.{Next, Sofar, one-more, stops, ends}
 
 -- THE END OF A LINE

@@ -14,12 +14,12 @@ use Rattle.rules.specs.Requests.{Operation, operations, kept, askedBy, requestO
 use Rattle.rules.specs.declared.Request.{Request}
 use Rattle.rules.specs.declared.Decoded.the-variants.{Asked, Bad}
 use Rattle.laws.proofs.Split.{is, clash}
-use Rattle.writer.specs.Line.{_andThen_, fieldFrom, fieldsFrom, ended, recordBytes, mostByte, mostWord, refused, fieldText, lineText, lineOf}
-use Rattle.writer.specs.Listing.{lineFeed}
+use Rattle.listing.specs.Line.{_andThen_, fieldFrom, fieldsFrom, ended, recordBytes, mostByte, mostWord, refused, fieldText, lineText, lineOf}
+use Rattle.listing.specs.Listing.{lineFeed}
 use Rattle.writer.specs.Places.{fieldAt, fieldsAt, takes, fed, takenText}
 use Rattle.writer.specs.declared.Number.{Number}
 use Rattle.writer.specs.declared.Number.the-variants.{NoNumber, Read}
-use Rattle.writer.proofs.Requests.{parts-of}
+use Rattle.listing.proofs.Requests.{parts-of}
 use Rattle.text.specs.Text.{decimal}
 use Rattle.writer.proofs.Places.{FieldTold, field-told, field-none}
 

@@ -1,6 +1,2 @@
--- The listing of request records: one line, a whole text, what holds of both, and a text that comes in parts.
-pub mod Line
-pub mod Listing
-pub mod Trips
-pub mod Parts
+-- What the code promises by places in a line and in a block.
 pub mod Places

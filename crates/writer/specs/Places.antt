@@ -8,13 +8,13 @@ use lib.Dec.{eqb, leb}
 use lib.ListN.{length, take, drop, getElem?}
 use Rattle.rules.specs.Basic.{if_then_else_, find}
 use Rattle.rules.specs.Requests.{operations, requestOf}
-use Rattle.writer.specs.Line.{Front, _andThen_, mostWord, recordBytes, fieldText, fieldsFrom, refused, numberFrom, fieldFrom}
-use Rattle.writer.specs.Listing.{lineFeed, textOf, cut, bytesOf}
-use Rattle.writer.specs.Parts.{partOf, isBad}
+use Rattle.listing.specs.Line.{Front, _andThen_, mostWord, recordBytes, fieldText, fieldsFrom, refused, numberFrom, fieldFrom}
+use Rattle.listing.specs.Listing.{lineFeed, cut, inputOf, bytesOf}
+use Rattle.listing.specs.Parts.{partOf, isBad}
 use Rattle.text.specs.Text.{decimal}
 use Rattle.text.specs.Puts.{Puts}
-use Rattle.writer.specs.declared.Way.{Way}
-use Rattle.writer.specs.declared.Way.the-variants.{ToRecords, ToListing}
+use Rattle.listing.specs.declared.Way.{Way}
+use Rattle.listing.specs.declared.Way.the-variants.{ToRecords, ToListing}
 use Rattle.writer.specs.declared.Number.{Number}
 use Rattle.writer.specs.declared.Number.the-variants.{NoNumber, Read}
 use Rattle.writer.specs.declared.Line.{Line}
@@ -87,11 +87,6 @@ unfoldable pub lineEnd : List ℕ → ℕ → ℕ
 lineEnd text from = from + find (λ c. eqb c lineFeed) (drop from text)
 
 -- BLOCKS
-
--- the bytes of some pieces
-abbrev pub inputOf : Way → List (List ℕ) → List ℕ
-inputOf ToRecords ls = textOf ls
-inputOf ToListing rs = flatten rs
 
 -- the place after the last piece of which something came out
 unfoldable pub placeAfter : Way → List ℕ → ℕ

@@ -1,7 +1,7 @@
 // Which fields an operation takes. It is asked of `request`, so no operation is known here by its number.
 ghost use mathlib.Core.Path.{_≡_};
 ghost use mathlib.Core.Bool.{not};
-ghost use Rattle.writer.specs.Line.{refused};
+ghost use Rattle.listing.specs.Line.{refused};
 ghost use Rattle.writer.specs.Places.{takes};
 use rules::Decoded;
 

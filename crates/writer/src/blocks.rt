@@ -4,12 +4,12 @@ ghost use mathlib.Core.Bool.{true, not};
 ghost use Prim.Native.Nat.{_≤_, _<_};
 ghost use lib.ListN.{length, getD};
 ghost use lib.Dec.{eqb};
-ghost use Rattle.writer.specs.Listing.{lineFeed};
+ghost use Rattle.listing.specs.Listing.{lineFeed};
 ghost use Rattle.writer.specs.Places.{lineEnd, partRoom, Block};
 use crate::Progress;
-use crate::Way;
 use crate::putting;
 use crate::reading;
+use listing::Way;
 
 // Does the line go on at a place of the text.
 fn goes_on(text: &[u8], at: usize) -> bool

@@ -1,5 +1,5 @@
-// Order 2: a listing turned into request records, and records into a listing, part by part as a program reads them. `specs/Line.antt` says what
-// one line means, `specs/Listing.antt` what a whole text does, and `specs/Parts.antt` where a text stands between two parts.
+// A listing turned into request records, and records into a listing, part by part as a program reads them. What a line means, and what comes
+// out of a part, is said in `listing`.
 ghost use mathlib.Core.Path.{_≡_};
 ghost use mathlib.Core.Option.{none, some};
 ghost use Prim.Native.Nat.{_+_, _*_, _≤_, _<_, _^_};
@@ -7,9 +7,10 @@ ghost use lib.ListN.{length, take};
 ghost use lib.Seq.{sets};
 ghost use Rattle.rules.specs.Basic.{if_then_else_};
 ghost use Rattle.text.specs.Puts.{Puts};
-ghost use Rattle.writer.specs.Listing.{bytesOf, badWhat, refusalText};
-ghost use Rattle.writer.specs.Parts.{partOf, tooLong, stops, holds};
+ghost use Rattle.listing.specs.Listing.{bytesOf, badWhat, refusalText};
+ghost use Rattle.listing.specs.Parts.{partOf, tooLong, stops, holds};
 ghost use Rattle.writer.specs.Places.{partRoom, refusalRoom, Block};
+use listing::Way;
 
 mod asks;
 mod blocks;
@@ -26,12 +27,6 @@ const TOO_LARGE: u64 = MOST_WORD + 1;
 
 // The most characters of a line before its line feed.
 const LINE_MOST: usize = 40;
-
-// The two ways: lines go to records, or records to lines.
-pub enum Way {
-    ToRecords,
-    ToListing,
-}
 
 // A number that stands in a line, 2^32 in the place of a larger one, and the place after it.
 pub enum Number {

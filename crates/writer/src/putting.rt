@@ -2,7 +2,7 @@
 ghost use Prim.Native.Nat.{_+_, _≤_};
 ghost use lib.ListN.{length};
 ghost use Rattle.text.specs.Puts.{Puts};
-ghost use Rattle.writer.specs.Line.{fieldText, lineOf};
+ghost use Rattle.listing.specs.Line.{fieldText, lineOf};
 ghost use Rattle.writer.specs.Places.{fed, listedRoom, takenText};
 use crate::asks;
 

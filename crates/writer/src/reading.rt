@@ -5,7 +5,7 @@ ghost use Prim.Native.Nat.{_+_, _*_, _-_, _≤_, _<_, min};
 ghost use lib.ListN.{length, getD, drop};
 ghost use lib.Seq.{sets};
 ghost use lib.Dec.{eqb};
-ghost use Rattle.writer.specs.Line.{isDigit, digitFirst, mostWord, recordBytes, recordOf};
+ghost use Rattle.listing.specs.Line.{isDigit, digitFirst, mostWord, recordBytes, recordOf};
 ghost use Rattle.writer.specs.Places.{tooLarge, numberAt, fieldAt, bounded, fieldsAt, bytesRead, given, isGiven};
 use crate::LINE_MOST;
 use crate::Line;

@@ -4,8 +4,10 @@
 
 mod door;
 mod kernel;
+mod listing;
 mod mail;
 mod names;
+mod random_line;
 mod random_record;
 mod random_table;
 mod request;
@@ -19,9 +21,11 @@ mod time;
 mod trace;
 
 pub use door::{door, AREA};
+pub use listing::{list, write, Listed, Written, LONGEST_LINE};
 pub use names::{code, operation, outcome, wait};
 pub use names::{DEEPEST_LOCK, FOREVER, FULL_COUNT, INIT, LONGEST};
 pub use names::{PRIORITIES, SEMAPHORES, THREADS};
+pub use random_line::{random_line, random_listing, random_request, random_requests};
 pub use random_record::random_record;
 pub use random_table::{random_sound, spoil};
 pub use request::{record, uses, Uses, RECORD};

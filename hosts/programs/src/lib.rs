@@ -1,60 +1,124 @@
-//! The compiled trace program, run as a user runs it: bytes go in by standard input, and what it writes is read back.
+//! The compiled programs, run as a user runs them: bytes go in by standard input, and what they write is read back.
 
-use std::fs::File;
-use std::io::Write;
+mod held;
+mod open;
+
+pub use held::{hold, hold_each};
+pub use open::Open;
+
+use std::fs::{self, File};
+use std::io::{ErrorKind, Write};
 use std::path::{Path, PathBuf};
-use std::process::{Command, Output, Stdio};
+use std::process::{Child, ChildStdin, Command, Output, Stdio};
+use std::sync::atomic::{AtomicUsize, Ordering};
 use std::thread;
+use std::time::Duration;
+
+/// A program reads at most so many bytes at a time.
+pub const BLOCK: usize = 12_288;
+
+/// A compiled program.
+#[derive(Clone, Copy, Debug, PartialEq, Eq)]
+pub enum Program {
+    /// Records go in, and their trace comes out.
+    Trace,
+    /// A listing goes in, and its records come out.
+    Write,
+    /// Records go in, and their listing comes out.
+    List,
+}
 
 /// The top of the repository.
 pub fn top() -> PathBuf {
     Path::new(env!("CARGO_MANIFEST_DIR")).join("../..")
 }
 
-/// The program: target/bin/trace, or what SPELTMALLET_TRACE names.
-fn program() -> PathBuf {
-    let named = std::env::var_os("SPELTMALLET_TRACE").map(PathBuf::from);
-    let program = named.unwrap_or_else(|| top().join("target/bin/trace"));
-    assert!(
-        program.exists(),
-        "there is no {}: run 'rt check trace' at the top of the repository",
-        program.display()
-    );
-    program
-}
-
-/// The command that runs the program on this machine.
-pub fn command() -> Command {
-    let mut command = Command::new(top().join("hosts/x86_64"));
-    command.arg("run").arg(program());
-    command
-}
-
-/// What the program writes when it is fed the chunks one after the other.
-pub fn traced(chunks: Vec<Vec<u8>>) -> Output {
-    let mut child = command()
-        .stdin(Stdio::piped())
-        .stdout(Stdio::piped())
-        .stderr(Stdio::piped())
-        .spawn()
-        .expect("the trace program starts");
-    let mut input = child.stdin.take().expect("its standard input");
-    let feeder = thread::spawn(move || {
-        for chunk in chunks {
-            input.write_all(&chunk).expect("the program reads on");
-            input.flush().expect("the program reads on");
+impl Program {
+    /// Its name, with which it begins what it says of a failure.
+    pub fn name(self) -> &'static str {
+        match self {
+            Program::Trace => "trace",
+            Program::Write => "write",
+            Program::List => "list",
         }
-    });
-    let output = child.wait_with_output().expect("the trace program ends");
-    feeder.join().expect("all input is fed");
-    output
+    }
+
+    /// The file: in target/bin, or in the folder that SPELTMALLET_PROGRAMS names.
+    fn path(self) -> PathBuf {
+        let named = std::env::var_os("SPELTMALLET_PROGRAMS").map(PathBuf::from);
+        let folder = named.unwrap_or_else(|| top().join("target/bin"));
+        let (path, name) = (folder.join(self.name()), self.name());
+        let shown = path.display();
+        assert!(
+            path.exists(),
+            "there is no {shown}: run 'rt check {name}' at the top of the repository"
+        );
+        path
+    }
+
+    /// The command that runs the program on this machine.
+    pub fn command(self) -> Command {
+        let mut command = Command::new(top().join("hosts/x86_64"));
+        command.arg("run").arg(self.path());
+        command
+    }
+
+    /// The program is started, with a pipe for each of its streams.
+    pub(crate) fn start(self) -> Child {
+        self.command()
+            .stdin(Stdio::piped())
+            .stdout(Stdio::piped())
+            .stderr(Stdio::piped())
+            .spawn()
+            .expect("the program starts")
+    }
+
+    /// What the program writes when it is fed the chunks one after the other.
+    pub fn fed(self, chunks: Vec<Vec<u8>>) -> Output {
+        self.fed_with_pauses(chunks, Duration::ZERO)
+    }
+
+    /// The same with a pause before each chunk, so that the program mostly reads it by itself.
+    pub fn fed_slowly(self, chunks: Vec<Vec<u8>>) -> Output {
+        self.fed_with_pauses(chunks, Duration::from_millis(1))
+    }
+
+    fn fed_with_pauses(self, chunks: Vec<Vec<u8>>, pause: Duration) -> Output {
+        let mut child = self.start();
+        let input = child.stdin.take().expect("its standard input");
+        let feeder = thread::spawn(move || feed(input, chunks, pause));
+        let output = child.wait_with_output().expect("the program ends");
+        feeder.join().expect("the input is fed");
+        output
+    }
+
+    /// What the program writes when its standard input is this file.
+    pub fn fed_file(self, path: &Path) -> Output {
+        let input = File::open(path).expect("the file is there");
+        let ended = self.command().stdin(input).output();
+        ended.expect("the program ends")
+    }
+
+    /// What the program writes when its standard input is a file of these bytes.
+    pub fn fed_as_file(self, input: &[u8]) -> Output {
+        static FILES: AtomicUsize = AtomicUsize::new(0);
+        let number = FILES.fetch_add(1, Ordering::Relaxed);
+        let name = format!("speltmallet-{}-{number}", std::process::id());
+        let path = std::env::temp_dir().join(name);
+        fs::write(&path, input).expect("a file in the temporary folder");
+        let output = self.fed_file(&path);
+        fs::remove_file(&path).expect("the file is there");
+        output
+    }
 }
 
-/// What the program writes when its standard input is a file.
-pub fn traced_file(path: &Path) -> Output {
-    let input = File::open(path).expect("the file is there");
-    command()
-        .stdin(input)
-        .output()
-        .expect("the trace program ends")
+/// Feeds the chunks one after the other. A program that has stopped leaves the rest unread.
+fn feed(mut input: ChildStdin, chunks: Vec<Vec<u8>>, pause: Duration) {
+    for chunk in chunks {
+        thread::sleep(pause);
+        match input.write_all(&chunk) {
+            Err(error) if error.kind() == ErrorKind::BrokenPipe => return,
+            fed => fed.expect("the program reads on"),
+        }
+    }
 }

@@ -1,9 +1,7 @@
 //! The compiled trace program prints what the model's trace prints.
 
-use model::{fresh, random_record, record, trace, Rng, RECORD};
-use std::fs::{self, OpenOptions};
-use std::process::Stdio;
-use trace::{command, traced, traced_file};
+use model::{fresh, random_record, Rng, RECORD};
+use programs::{hold, Program::Trace};
 
 /// Records of a run that the model takes from a fresh table on, all operations mixed, now and then malformed.
 fn run(seed: u64, records: usize) -> Vec<u8> {
@@ -19,33 +17,19 @@ fn run(seed: u64, records: usize) -> Vec<u8> {
     input
 }
 
-/// The program says nothing on standard error and prints the model's trace.
-fn same(input: &[u8], chunks: Vec<Vec<u8>>) {
-    let output = traced(chunks);
-    let said = String::from_utf8_lossy(&output.stderr);
-    assert!(said.is_empty(), "on standard error: {said}");
-    let expected = trace(input);
-    if output.stdout != expected {
-        let ours = String::from_utf8_lossy(&output.stdout).into_owned();
-        let model = String::from_utf8_lossy(&expected).into_owned();
-        let differ = ours.lines().zip(model.lines()).position(|(a, b)| a != b);
-        let at = differ.unwrap_or_else(|| ours.lines().count().min(model.lines().count()));
-        panic!(
-            "line {at}: the program prints {:?}, the model {:?}",
-            ours.lines().nth(at),
-            model.lines().nth(at)
-        );
-    }
+/// The program, fed all of the input at once, prints the model's trace.
+fn same(input: Vec<u8>) {
+    let output = Trace.fed(vec![input.clone()]);
+    hold(Trace, &input, output);
 }
 
 #[test]
 fn empty_input_prints_nothing_and_left_over_bytes_are_short() {
     for n in 0..=25 {
-        let input = vec![19; n];
-        same(&input, vec![input.clone()]);
+        same(vec![19; n]);
     }
-    assert_eq!(traced(vec![vec![1; 11]]).stdout, b"short 11\n");
-    assert_eq!(traced(vec![]).stdout, b"");
+    assert_eq!(Trace.fed(vec![vec![1; 11]]).stdout, b"short 11\n");
+    assert_eq!(Trace.fed(vec![]).stdout, b"");
 }
 
 #[test]
@@ -59,7 +43,7 @@ fn long_runs_are_printed_as_by_the_model() {
     ] {
         let mut input = run(seed, records);
         input.extend(vec![0xA5; left_over]);
-        same(&input, vec![input.clone()]);
+        same(input);
     }
 }
 
@@ -74,49 +58,18 @@ fn records_may_straddle_reads() {
             &input[..]
         };
         let chunks = part.chunks(size).map(<[u8]>::to_vec).collect();
-        same(part, chunks);
+        hold(Trace, part, Trace.fed(chunks));
     }
 }
 
 #[test]
 fn random_bytes_are_printed_as_by_the_model() {
     let mut rng = Rng::new(7);
-    let input: Vec<u8> = (0..60_005).map(|_| rng.bits() as u8).collect();
-    same(&input, vec![input.clone()]);
+    same((0..60_005).map(|_| rng.bits() as u8).collect());
 }
 
 #[test]
 fn a_file_is_read_as_a_pipe_is() {
     let input = run(8, 4_000);
-    let path = std::env::temp_dir().join(format!("speltmallet-trace-{}", std::process::id()));
-    fs::write(&path, &input).expect("a file in the temporary folder");
-    let output = traced_file(&path);
-    fs::remove_file(&path).expect("the file is there");
-    assert_eq!(output.stdout, trace(&input));
-}
-
-#[test]
-fn an_input_that_cannot_be_read_is_no_end() {
-    let folder = traced_file(&std::env::temp_dir());
-    assert_eq!(folder.stdout, b"");
-    assert_eq!(folder.stderr, b"trace: standard input can't be read\n");
-}
-
-#[test]
-fn an_output_that_cannot_be_written_is_said() {
-    let full = OpenOptions::new()
-        .write(true)
-        .open("/dev/full")
-        .expect("/dev/full");
-    let mut child = command()
-        .stdin(Stdio::piped())
-        .stdout(full)
-        .stderr(Stdio::piped())
-        .spawn()
-        .expect("the trace program starts");
-    let tick = record(model::operation::TICK, 0, 0, 0, 0);
-    std::io::Write::write_all(&mut child.stdin.take().expect("standard input"), &tick)
-        .expect("the program reads");
-    let output = child.wait_with_output().expect("the trace program ends");
-    assert_eq!(output.stderr, b"trace: standard output can't be written\n");
+    hold(Trace, &input, Trace.fed_as_file(&input));
 }

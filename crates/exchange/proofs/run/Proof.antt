@@ -2,13 +2,13 @@
 -- Assumes nothing.
 use native.Mathlib.Omega.{arith}
 use mathlib.Core.Path.{_≡_, refl, sym, ap, _∙_}
-use Prim.Native.Nat.{_+_, _*_, _≤_}
+use Prim.Native.Nat.{_+_, _*_, _≤_, _<_, _^_}
 use lib.ListN.{length, take}
 use lib.Seq.{length-take-le}
 use borrow.Author.Needs.{needs}
 use mathlib.Core.Bool.{not}
 use Rattle.laws.proofs.Split.{or-false}
-use Rattle.writer.proofs.InParts.{holds-room}
+use Rattle.listing.proofs.InParts.{holds-room}
 use Rattle.exchange.proofs.Turns.{Going, none-seen, turned-on, turned-end, same-held, ended-going}
 use Rattle.exchange.proofs.run.Statement.{statement}
 use Rattle.exchange.proofs.run.Tie as tie
@@ -16,7 +16,7 @@ use Rattle.exchange.proofs.run.Tie as tie
 abbrev Inv-loop : tie.InvT-loop
 Inv-loop name way out₀ block₀ bytes₀ number₀ held₀ reads₀ out block bytes number held reads =
     (length out ≡ length out₀) × (length block ≡ 12288) × (held ≤ 12288)
-    × (number + 12288 * reads ≤ 13835058055282163712) × (bytes + 12288 * reads ≤ 13835058055282163712) × Going way bytes number (take held block)
+    × (number + 12288 * reads + 12288 < 2 ^ 64) × (bytes + 12288 * reads + 12288 < 2 ^ 64) × Going way bytes number (take held block)
 
 abbrev μ-loop : tie.MeasureT-loop
 μ-loop name way out₀ block₀ bytes₀ number₀ held₀ reads₀ out block bytes number held reads = reads

@@ -1,7 +1,7 @@
 -- `writer::asks::takes` meets its contract. Assumes nothing.
 use mathlib.Core.Path.{ap, _∙_}
 use mathlib.Core.Bool.{not}
-use Rattle.writer.specs.Line.{refused}
+use Rattle.listing.specs.Line.{refused}
 use Rattle.writer.specs.Places.{takes}
 use borrow.Author.Needs.{needs}
 use Rattle.writer.proofs.asks.takes.Statement.{statement}

@@ -5,7 +5,7 @@ use native.Mathlib.Omega.{arith}
 use lib.Dec.{eqb}
 use lib.ListN.{length, getD}
 use borrow.Author.Tests.{not-true, not-false}
-use Rattle.writer.specs.Listing.{lineFeed}
+use Rattle.listing.specs.Listing.{lineFeed}
 use Rattle.writer.specs.Places.{lineEnd}
 use Rattle.writer.proofs.Pieces.{line-goes-on, line-ends}
 use Rattle.writer.proofs.blocks.line_end.Statement.{statement}

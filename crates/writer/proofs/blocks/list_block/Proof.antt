@@ -4,7 +4,7 @@ use Prim.Native.Nat.{_≤_, _-_}
 use native.Mathlib.Omega.{arith}
 use lib.ListN.{length}
 use borrow.Author.Needs.{needs}
-use Rattle.writer.specs.declared.Way.the-variants.{ToListing}
+use Rattle.listing.specs.declared.Way.the-variants.{ToListing}
 use Rattle.writer.proofs.Block.{Sofar, none-yet}
 use Rattle.writer.proofs.Pieces.{record-taken, record-bad, records-end}
 use Rattle.writer.proofs.blocks.list_block.Statement.{statement}

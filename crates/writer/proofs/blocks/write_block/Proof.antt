@@ -7,7 +7,7 @@ use lib.ListN.{length}
 use borrow.Author.Needs.{needs}
 use borrow.Author.Tests.{not-true, not-false}
 use Rattle.writer.specs.Places.{lineEnd}
-use Rattle.writer.specs.declared.Way.the-variants.{ToRecords}
+use Rattle.listing.specs.declared.Way.the-variants.{ToRecords}
 use Rattle.writer.proofs.Block.{Sofar, none-yet}
 use Rattle.writer.proofs.Pieces.{line-taken, line-bad, lines-end}
 use Rattle.writer.proofs.blocks.write_block.Statement.{statement}

@@ -4,8 +4,8 @@ use mathlib.Core.Bool.{false, not}
 use native.Mathlib.Omega.{arith}
 use borrow.Author.Tests.{not-true, not-false}
 use Rattle.rules.specs.Requests.{decodeRequest}
-use Rattle.writer.specs.Line.{refused}
-use Rattle.writer.proofs.Requests.{parts-of}
+use Rattle.listing.specs.Line.{refused}
+use Rattle.listing.proofs.Requests.{parts-of}
 use Rattle.writer.proofs.Taken.{refused-text, taken-text}
 use borrow.Author.Needs.{needs}
 use Rattle.writer.proofs.putting.list_record.Statement.{statement}

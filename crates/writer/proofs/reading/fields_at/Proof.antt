@@ -4,7 +4,7 @@ use mathlib.Core.Path.{_≡_, sym, _∙_}
 use mathlib.Core.Bool.{true}
 use native.Mathlib.Omega.{arith}
 use borrow.Author.Tests.{not-true, not-false}
-use Rattle.writer.specs.Line.{mostByte, mostWord}
+use Rattle.listing.specs.Line.{mostByte, mostWord}
 use Rattle.writer.specs.Places.{takes}
 use Rattle.writer.proofs.Places.{FieldTold}
 use Rattle.writer.proofs.Taken.{told-as, none-as, no-operation, no-object, no-priority, no-word, no-parcel, no-end, all-read}

@@ -5,7 +5,7 @@ use native.Mathlib.Omega.{arith}
 use lib.ListN.{length, drop}
 use borrow.Author.Needs.{needs}
 use borrow.Author.Tests.{not-true, not-false}
-use Rattle.writer.specs.Line.{digitsFrom}
+use Rattle.listing.specs.Line.{digitsFrom}
 use Rattle.writer.specs.Places.{tooLarge, capped}
 use Rattle.writer.proofs.Places.{digit-there, digit-taken, no-number, number-read}
 use Rattle.writer.proofs.reading.number_at.Statement.{statement}

@@ -1,7 +1,8 @@
 -- `writer::reading::read_line` meets its contract: each way out has passed the tests that pick its case. Assumes nothing.
 use mathlib.Core.Path.{sym, _∙_}
 use native.Mathlib.Omega.{arith}
-use Rattle.writer.proofs.Places.{number-none, number-told, too-long, not-a-number, large-operation, line-told}
+use Rattle.listing.proofs.Trips.{too-long}
+use Rattle.writer.proofs.Places.{number-none, number-told, not-a-number, large-operation, line-told}
 use borrow.Author.Needs.{needs}
 use Rattle.writer.proofs.reading.read_line.Statement.{statement}
 use Rattle.writer.proofs.reading.read_line.Tie as tie

@@ -1,6 +1,6 @@
 -- `writer::reading::with_digit` meets its contract. Assumes nothing.
 use native.Mathlib.Omega.{arith}
-use Rattle.writer.proofs.Numbers.{digit-range}
+use Rattle.listing.proofs.Numbers.{digit-range}
 use borrow.Author.Needs.{needs}
 use Rattle.writer.proofs.reading.with_digit.Statement.{statement}
 use Rattle.writer.proofs.reading.with_digit.Tie as tie

@@ -6,8 +6,8 @@ use Prim.Native.Nat.{ℕ}
 use Rattle.rules.specs.Requests.{requestOf, decodeRequest}
 use Rattle.rules.specs.Trace.{records}
 use Rattle.text.specs.Text.{ascii, digits, decimal}
-use Rattle.writer.specs.Line.{lineText, lineOf, digitsFrom, numberFrom, spacedFrom, fieldFrom, ended, fieldsFrom, recordOf}
-use Rattle.writer.specs.Listing.{textOf, linesOf, each, turnedFrom, write, list}
+use Rattle.listing.specs.Line.{lineText, lineOf, digitsFrom, numberFrom, spacedFrom, fieldFrom, ended, fieldsFrom, recordOf}
+use Rattle.listing.specs.Listing.{textOf, linesOf, each, turnedFrom, write, list}
 
 -- the record of a line that is taken
 abbrev Takes : List ℕ → List ℕ → Type 0

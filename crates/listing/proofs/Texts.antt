@@ -7,8 +7,8 @@ use Prim.Native.Nat.{ℕ}
 use lib.Dec.{eqb}
 use borrow.Author.Tests.{eqb-true, not-true}
 use Rattle.laws.proofs.Split.{is, isnt, test, and-true}
-use Rattle.writer.specs.Listing.{lineFeed, textOf, lengthened, linesOf}
-use Rattle.writer.proofs.Numbers.{clean}
+use Rattle.listing.specs.Listing.{lineFeed, textOf, lengthened, linesOf}
+use Rattle.listing.proofs.Numbers.{clean}
 
 pub first-line : (l t : List ℕ) → clean l ≡ true → linesOf (l ++ lineFeed ∷ t) ≡ record { pieces = l ∷ linesOf t .pieces; rest = linesOf t .rest }
 unfolding linesOf

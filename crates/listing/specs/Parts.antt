@@ -8,10 +8,10 @@ use Prim.Native.Nat.{ℕ, _+_}
 use lib.Dec.{ltb}
 use lib.ListN.{length}
 use Rattle.rules.specs.Basic.{if_then_else_}
-use Rattle.writer.specs.Line.{lineMost}
-use Rattle.writer.specs.Listing.{Out, cut, rule, each, turned}
-use Rattle.writer.specs.declared.Way.{Way}
-use Rattle.writer.specs.declared.Way.the-variants.{ToRecords, ToListing}
+use Rattle.listing.specs.Line.{lineMost}
+use Rattle.listing.specs.Listing.{Out, cut, rule, each, turned}
+use Rattle.listing.specs.declared.Way.{Way}
+use Rattle.listing.specs.declared.Way.the-variants.{ToRecords, ToListing}
 
 -- A PART
 

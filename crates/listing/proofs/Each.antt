@@ -6,7 +6,7 @@ use mathlib.Core.Option.{Option, none, some, Option·none-ne-some}
 use Prim.Native.Nat.{ℕ, suc, _+_}
 use native.Mathlib.Omega.{arith}
 use lib.ListN.{length}
-use Rattle.writer.specs.Listing.{Out, joined, each}
+use Rattle.listing.specs.Listing.{Out, joined, each}
 
 -- SOME AND THEN OTHERS
 

@@ -14,8 +14,8 @@ use Rattle.rules.specs.Requests.{kept}
 use Rattle.laws.proofs.Split.{is}
 use Rattle.text.specs.Text.{decimal}
 use Rattle.text.proofs.Decimal.{decimal-room}
-use Rattle.writer.specs.Line.{Front, _andThen_, fieldText, digitFirst, digitsFrom, numberFrom, atMost, spacedFrom, fieldFrom, plainFrom}
-use Rattle.writer.proofs.Numbers.{decimal-read, read-plain, rest-plain, clean, clean-char, digits-clean}
+use Rattle.listing.specs.Line.{Front, _andThen_, fieldText, digitFirst, digitsFrom, numberFrom, atMost, spacedFrom, fieldFrom, plainFrom}
+use Rattle.listing.proofs.Numbers.{decimal-read, read-plain, rest-plain, clean, clean-char, digits-clean}
 
 -- RESULTS
 

@@ -13,8 +13,8 @@ use Rattle.rules.specs.Basic.{all}
 use Rattle.laws.proofs.Split.{is, isnt, test, clash, and-true, and-both}
 use Rattle.text.specs.Text.{digit, decimal}
 use Rattle.text.proofs.Decimal.{decimal-one, decimal-more}
-use Rattle.writer.specs.Line.{isDigit, digitFirst, digitsFrom, numberFrom, plainFrom}
-use Rattle.writer.specs.Listing.{lineFeed}
+use Rattle.listing.specs.Line.{isDigit, digitFirst, digitsFrom, numberFrom, plainFrom}
+use Rattle.listing.specs.Listing.{lineFeed}
 
 pub digit-in : (d : ℕ) → d < 10 → isDigit (digit d) ≡ true
 digit-in d h = and-both (leb 48 (digit d)) (leb (digit d) 57) (le-leb 48 (digit d) (omega arith)) (le-leb (digit d) 57 (omega arith))

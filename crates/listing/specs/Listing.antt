@@ -9,9 +9,9 @@ use Rattle.rules.specs.Basic.{if_then_else_}
 use Rattle.rules.specs.Trace.{wholeRecords}
 use Rattle.text.specs.Text.{ascii, decimal}
 use Rattle.parts.specs.LeftOver.{leftOver}
-use Rattle.writer.specs.Line.{lineOf, recordOf}
-use Rattle.writer.specs.declared.Way.{Way}
-use Rattle.writer.specs.declared.Way.the-variants.{ToRecords, ToListing}
+use Rattle.listing.specs.Line.{lineOf, recordOf}
+use Rattle.listing.specs.declared.Way.{Way}
+use Rattle.listing.specs.declared.Way.the-variants.{ToRecords, ToListing}
 
 abbrev pub lineFeed : ℕ
 lineFeed = 10
@@ -44,6 +44,11 @@ linesOf (c ∷ cs) =
 abbrev pub cut : Way → List ℕ → Cut
 cut ToRecords text = linesOf text
 cut ToListing input = record { pieces = wholeRecords input; rest = leftOver input }
+
+-- the bytes of some pieces
+abbrev pub inputOf : Way → List (List ℕ) → List ℕ
+inputOf ToRecords ls = textOf ls
+inputOf ToListing rs = flatten rs
 
 -- what comes out of one; none of a bad one
 abbrev pub rule : Way → List ℕ → Option (List ℕ)

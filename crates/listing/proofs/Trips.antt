@@ -3,17 +3,17 @@
 use mathlib.Core.Path.{_≡_, refl, sym, ap, _∙_}
 use mathlib.Core.Bool.{true, false}
 use mathlib.Core.List.{List, [], _∷_, _++_, append-nil}
-use mathlib.Core.Option.{Option, some, Option·some-injective, Option·none-ne-some}
-use Prim.Native.Nat.{ℕ, _≤_}
+use mathlib.Core.Option.{Option, none, some, Option·some-injective, Option·none-ne-some}
+use Prim.Native.Nat.{ℕ, _≤_, _<_}
 use native.Mathlib.Omega.{arith}
 use lib.Dec.{ltb}
 use lib.ListN.{length, length-append, getD, getElem?}
-use borrow.Author.Tests.{le-ltb}
+use borrow.Author.Tests.{lt-ltb, le-ltb}
 use Rattle.rules.specs.Table.{wordAt}
 use Rattle.rules.specs.Requests.{Operation, operations, decodeRequest}
 use Rattle.text.specs.Text.{decimal}
 use Rattle.text.proofs.Decimal.{decimal-room}
-use Rattle.writer.specs.Line.{
+use Rattle.listing.specs.Line.{
   Front,
   _andThen_,
   refused,
@@ -31,10 +31,10 @@ use Rattle.writer.specs.Line.{
   recordOf,
   plainFrom,
 }
-use Rattle.writer.specs.Trips.{Bytes, Listed, Written, Asks}
-use Rattle.writer.proofs.Numbers.{clean, decimal-read}
-use Rattle.writer.proofs.Fields.{then-some, unless-some, field-stops, field-read, field-room, number-plain, number-clean, Field, field-of}
-use Rattle.writer.proofs.Requests.{Kept, parts-of, record-asks, fields-back, word-most, record-made}
+use Rattle.listing.specs.Trips.{Bytes, Listed, Written, Asks}
+use Rattle.listing.proofs.Numbers.{clean, decimal-read}
+use Rattle.listing.proofs.Fields.{then-some, unless-some, field-stops, field-read, field-room, number-plain, number-clean, Field, field-of}
+use Rattle.listing.proofs.Requests.{Kept, parts-of, record-asks, fields-back, word-most, record-made}
 
 -- FROM A RECORD TO ITS LINE AND BACK
 
@@ -209,3 +209,9 @@ written l r e h =
     let w = read l r e in
     ap lineOf (sym (w .made)) ∙ made-line (w .a .number) (w .o .number) (w .p .number) (w .n .number) (w .d .number) (kept-read w)
     ∙ ap some (line-plain w h)
+
+-- A LINE THAT IS TOO LONG
+
+pub too-long : (line : List ℕ) → lineMost < length line → none ≡ recordOf line
+unfolding recordOf
+too-long line h = rw (lt-ltb lineMost (length line) h) refl

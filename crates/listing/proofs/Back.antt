@@ -13,14 +13,14 @@ use Rattle.rules.specs.Requests.{requestLength}
 use Rattle.rules.specs.Trace.{records, wholeRecords}
 use Rattle.parts.specs.LeftOver.{leftOver}
 use Rattle.laws.proofs.Split.{and-true, and-both}
-use Rattle.writer.specs.Line.{isDigit, digitFirst, lineOf, recordOf, plainFrom, plain}
-use Rattle.writer.specs.Listing.{Out, lineFeed, textOf, linesOf, joined, each, turnedFrom}
-use Rattle.writer.specs.Trips.{Bytes, Whole, Same, WholeBack}
-use Rattle.writer.specs.declared.Way.the-variants.{ToRecords, ToListing}
-use Rattle.writer.proofs.Trips.{read, line-back, written, taken-clean}
-use Rattle.writer.proofs.Texts.{first-line, text-of-lines}
-use Rattle.writer.proofs.Each.{joined-none, no-rest, each-all}
-use Rattle.writer.proofs.Cuts.{cut-whole}
+use Rattle.listing.specs.Line.{isDigit, digitFirst, lineOf, recordOf, plainFrom, plain}
+use Rattle.listing.specs.Listing.{Out, lineFeed, textOf, linesOf, joined, each, turnedFrom}
+use Rattle.listing.specs.Trips.{Bytes, Whole, Same, WholeBack}
+use Rattle.listing.specs.declared.Way.the-variants.{ToRecords, ToListing}
+use Rattle.listing.proofs.Trips.{read, line-back, written, taken-clean}
+use Rattle.listing.proofs.Texts.{first-line, text-of-lines}
+use Rattle.listing.proofs.Each.{joined-none, no-rest, each-all}
+use Rattle.listing.proofs.Cuts.{cut-whole}
 
 -- FROM RECORDS TO A TEXT AND BACK
 

@@ -10,11 +10,10 @@ use Rattle.rules.specs.Requests.{requestLength}
 use Rattle.rules.specs.Trace.{records, wholeRecords}
 use Rattle.parts.specs.LeftOver.{leftOver}
 use Rattle.parts.proofs.Whole.{whole-append, left-append}
-use Rattle.writer.specs.Listing.{Cut, lineFeed, textOf, linesOf, cut, bytesOf}
-use Rattle.writer.specs.Places.{inputOf}
-use Rattle.writer.specs.declared.Way.{Way}
-use Rattle.writer.specs.declared.Way.the-variants.{ToRecords, ToListing}
-use Rattle.writer.proofs.Texts.{lines-on, text-of-lines}
+use Rattle.listing.specs.Listing.{Cut, lineFeed, textOf, linesOf, cut, inputOf, bytesOf}
+use Rattle.listing.specs.declared.Way.{Way}
+use Rattle.listing.specs.declared.Way.the-variants.{ToRecords, ToListing}
+use Rattle.listing.proofs.Texts.{lines-on, text-of-lines}
 
 -- THE BYTES OF PIECES
 

@@ -11,15 +11,14 @@ use lib.ListN.{length, length-append}
 use borrow.Author.Tests.{ltb-true}
 use Rattle.laws.proofs.Split.{is, isnt, test, clash, or-false}
 use Rattle.rules.specs.Basic.{if_then_else_}
-use Rattle.writer.specs.Line.{lineMost, recordOf}
-use Rattle.writer.specs.Listing.{Cut, Out, lineFeed, lengthened, linesOf, cut, rule, each, turnedFrom}
-use Rattle.writer.specs.Parts.{partOf, isBad, tooLong, stops, holds, isSome, outOfAll, InParts}
-use Rattle.writer.specs.Places.{inputOf}
-use Rattle.writer.specs.declared.Way.{Way}
-use Rattle.writer.specs.declared.Way.the-variants.{ToRecords, ToListing}
-use Rattle.writer.proofs.Places.{too-long}
-use Rattle.writer.proofs.Each.{each-on, each-stop, Same, each-same, each-all}
-use Rattle.writer.proofs.Cuts.{cut-whole, cut-on, Open, left-open, none-open}
+use Rattle.listing.specs.Line.{lineMost, recordOf}
+use Rattle.listing.specs.Listing.{Cut, Out, lineFeed, lengthened, linesOf, cut, inputOf, rule, each, turnedFrom}
+use Rattle.listing.specs.Parts.{partOf, isBad, tooLong, stops, holds, isSome, outOfAll, InParts}
+use Rattle.listing.specs.declared.Way.{Way}
+use Rattle.listing.specs.declared.Way.the-variants.{ToRecords, ToListing}
+use Rattle.listing.proofs.Trips.{too-long}
+use Rattle.listing.proofs.Each.{each-on, each-stop, Same, each-same, each-all}
+use Rattle.listing.proofs.Cuts.{cut-whole, cut-on, Open, left-open, none-open}
 
 -- some that are done before what comes out of the rest
 abbrev pub before : List (List ℕ) → Out → Out

@@ -9,8 +9,8 @@ use Rattle.rules.specs.Requests.{decodeRequest}
 use Rattle.rules.specs.Trace.{wholeRecords}
 use Rattle.rules.specs.declared.Request.{Request}
 use Rattle.rules.specs.declared.Decoded.the-variants.{Asked}
-use Rattle.writer.specs.Line.{_andThen_, lineOf, recordOf, plain}
-use Rattle.writer.specs.Listing.{textOf, write, list}
+use Rattle.listing.specs.Line.{_andThen_, lineOf, recordOf, plain}
+use Rattle.listing.specs.Listing.{textOf, write, list}
 
 abbrev pub Bytes : List ℕ → Type 0
 Bytes bs = (k : ℕ) → getD bs k 0 < 256
