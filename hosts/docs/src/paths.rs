@@ -131,8 +131,8 @@ mod tests {
 
     #[test]
     fn a_command_names_the_paths_that_begin_at_the_top() {
-        let command = "hosts/bench/trace.sh target/staticlib n/a ./speltmallet docs/NONE.md";
-        let named = ["hosts/bench/trace.sh", "./speltmallet", "docs/NONE.md"];
+        let command = "hosts/bench/programs.sh target/staticlib n/a ./speltmallet docs/NONE.md";
+        let named = ["hosts/bench/programs.sh", "./speltmallet", "docs/NONE.md"];
         assert_eq!(paths(command), named);
         assert_eq!(paths("hosts/door"), ["hosts/door"]);
         assert!(paths("bash it").is_empty());

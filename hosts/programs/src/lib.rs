@@ -11,6 +11,7 @@ use std::io::{ErrorKind, Write};
 use std::path::{Path, PathBuf};
 use std::process::{Child, ChildStdin, Command, Output, Stdio};
 use std::sync::atomic::{AtomicUsize, Ordering};
+use std::sync::OnceLock;
 use std::thread;
 use std::time::Duration;
 
@@ -31,6 +32,25 @@ pub enum Program {
 /// The top of the repository.
 pub fn top() -> PathBuf {
     Path::new(env!("CARGO_MANIFEST_DIR")).join("../..")
+}
+
+/// The words before a program that run it on this machine. hosts/x86_64 is asked for them once: a run by the script takes three times as
+/// long as one without.
+fn words_before() -> &'static [String] {
+    static WORDS: OnceLock<Vec<String>> = OnceLock::new();
+    WORDS.get_or_init(|| {
+        let asked = Command::new(top().join("hosts/x86_64"))
+            .arg("words")
+            .output();
+        let asked = asked.expect("hosts/x86_64 runs");
+        assert!(
+            asked.status.success(),
+            "{}",
+            String::from_utf8_lossy(&asked.stderr)
+        );
+        let words = String::from_utf8(asked.stdout).expect("words are text");
+        words.lines().map(String::from).collect()
+    })
 }
 
 impl Program {
@@ -58,8 +78,10 @@ impl Program {
 
     /// The command that runs the program on this machine.
     pub fn command(self) -> Command {
-        let mut command = Command::new(top().join("hosts/x86_64"));
-        command.arg("run").arg(self.path());
+        let before = words_before().iter().map(PathBuf::from);
+        let mut words = before.chain([self.path()]);
+        let mut command = Command::new(words.next().expect("the program at least"));
+        command.args(words);
         command
     }
 
