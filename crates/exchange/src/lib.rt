@@ -13,28 +13,32 @@ ghost use Rattle.exchange.specs.Going.{Ended};
 use listing::Way;
 
 // A block holds 1,024 records, so that a file's reads leave nothing over.
-const BLOCK: usize = 12288;
+pub const BLOCK: usize = 12288;
 
 // The room for what comes out of a block: a record of 12 bytes for each two, and a longest line.
 pub const OUT: usize = 6 * BLOCK + 48;
 
-// What the run comes to: how many bytes have come, how many lines or records are done, and the place after the refusal.
+// What the run comes to: how many bytes have come, how many lines or records are done, how many bytes are held at the front of the block, and the
+// place after the refusal.
 pub struct Done {
     pub bytes: u64,
     pub number: u64,
+    pub held: usize,
     pub next: usize,
 }
 
-fn empty_block() -> [u8; BLOCK]
-    ensures { λ r. ⌜ 12288 ≡ length r ⌝ }
-{
-    [0; BLOCK]
-}
-
 // No more is read: the refusal stands ready, if there is one, and is said unless something failed.
-fn close(way: Way, bytes: u64, number: u64, bad: bool, said: bool, out: &mut [u8]) -> Done
+fn close(
+    way: Way,
+    bytes: u64,
+    number: u64,
+    held: usize,
+    bad: bool,
+    said: bool,
+    out: &mut [u8],
+) -> Done
     requires { ⌜ refusalRoom ≤ length (now out) ⌝ }
-    ensures counts { λ r. ⌜ (r .bytes ≡ bytes) × (r .number ≡ number) ⌝ }
+    ensures counts { λ r. ⌜ (r .bytes ≡ bytes) × (r .number ≡ number) × (r .held ≡ held) ⌝ }
     ensures line { λ r. ⌜ Puts (now (out .entry)) 0 (refusalText way (if bad then some number else none)) (now (out .exit)) (r .next) ⌝ }
     ensures room { λ r. ⌜ r .next ≤ refusalRoom ⌝ }
 {
@@ -45,42 +49,37 @@ fn close(way: Way, bytes: u64, number: u64, bad: bool, said: bool, out: &mut [u8
     Done {
         bytes,
         number,
+        held,
         next,
     }
 }
 
 // The whole input is turned, part by part, for the program of that name. A failure is said on standard error and ends it.
-pub fn run(name: &[u8], way: Way, out: &mut [u8]) -> Done
+pub fn run(name: &[u8], way: Way, block: &mut [u8], out: &mut [u8]) -> Done
+    requires { ⌜ length (now block) ≡ 12288 ⌝ }
     requires { ⌜ length (now out) ≡ partRoom 12288 ⌝ }
-    ensures { λ r. ⌜ Ended way (r .bytes) (r .number) (take (r .next) (now (out .exit))) ⌝ }
+    ensures { λ r. ⌜ Ended way (r .bytes) (r .number) (take (r .held) (now (block .exit))) (take (r .next) (now (out .exit))) ⌝ }
 {
-    let mut block = empty_block();
     let mut bytes: u64 = 0;
     let mut number: u64 = 0;
     let mut held: usize = 0;
     let mut reads = streams::READS;
     while 0 < reads {
-        let come = streams::read_behind(name, &mut block, held);
+        let come = streams::read_behind(name, block, held);
         let n = come.n;
         if n == held {
-            return close(way, bytes, number, 0 < held, !come.failed, out);
+            return close(way, bytes, number, held, 0 < held, !come.failed, out);
         }
         bytes += (n - held) as u64;
-        let turned = writer::turn(way, number, &mut block, n, out);
+        let turned = writer::turn(way, number, block, n, out);
         number = turned.number;
         held = turned.held;
         let written = streams::write_front(name, out, turned.next);
         if turned.stopped | !written {
-            return close(
-                way,
-                bytes,
-                number,
-                turned.stopped | (0 < held),
-                written,
-                out,
-            );
+            let bad = turned.stopped | (0 < held);
+            return close(way, bytes, number, held, bad, written, out);
         }
         reads -= 1;
     }
-    close(way, bytes, number, 0 < held, false, out)
+    close(way, bytes, number, held, 0 < held, false, out)
 }

@@ -143,9 +143,9 @@ last-open w k held o = rw (o .none, o .all) (go held)
     go [] = refl
     go (c ∷ cs) = refl
 
-pub holds-none : (w : Way) (come : List ℕ) → stops w come ≡ true → holds w come ≡ []
+pub holds-come : (w : Way) (come : List ℕ) → stops w come ≡ true → holds w come ≡ come
 unfolding holds
-holds-none w come e = rw e refl
+holds-come w come e = rw e refl
 
 pub holds-all : (w : Way) (come : List ℕ) → stops w come ≡ false → holds w come ≡ cut w come .rest
 unfolding holds
@@ -155,16 +155,16 @@ holds-all w come e = rw e refl
 pub holds-room : (w : Way) (come : List ℕ) → length (holds w come) ≤ length come
 holds-room w come =
     elim (test (stops w come)) [
-      | is e ↦ rw (holds-none w come e) (omega arith)
+      | is e ↦ rw (holds-come w come e) (omega arith)
       | isnt e ↦
           rw (holds-all w come e)
           (omega (arith, ap length (cut-whole w come), length-append (inputOf w (cut w come .pieces)) (cut w come .rest)))
     ]
 
-none-more : (w : Way) (k : ℕ) (parts : List (List ℕ)) → outOfAll w (record { number = k; held = []; stopped = true }) parts ≡ record { done = []; bad = some k }
+none-more : (w : Way) (k : ℕ) (held : List ℕ) (parts : List (List ℕ)) → outOfAll w (record { number = k; held = held; stopped = true }) parts ≡ record { done = []; bad = some k }
 unfolding outOfAll
-none-more w k [] = refl
-none-more w k (p ∷ parts) = rw (none-more w k parts) refl
+none-more w k held [] = refl
+none-more w k held (p ∷ parts) = rw (none-more w k held parts) refl
 
 all-from : (w : Way) (k : ℕ) (held : List ℕ) (parts : List (List ℕ)) → Open w held
     → outOfAll w (record { number = k; held = held; stopped = false }) parts ≡ turnedFrom w k (held ++ flatten parts)
@@ -176,7 +176,7 @@ all-from w k held (p ∷ parts) o =
     let joins : come ++ flatten parts ≡ held ++ (p ++ flatten parts) = append-assoc held p (flatten parts) in
     (elim (test (stops w come)) [
       | is e ↦
-          rw (e, holds-none w come e, none-more w (k + length done) parts, append-nil done) (sym (stops-there w k come (flatten parts) e))
+          rw (e, none-more w (k + length done) (holds w come) parts, append-nil done) (sym (stops-there w k come (flatten parts) e))
       | isnt e ↦
           let g = goes-on w k come (flatten parts) e in
           rw (e, g .0) (ap (before done) (all-from w (k + length done) (cut w come .rest) parts (left-open w come)) ∙ sym (g .1))

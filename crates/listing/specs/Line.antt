@@ -1,5 +1,5 @@
--- A line of a listing and its record: "one request per text line, the operation's number, then the fields it uses in record
--- order, in decimal, single spaces, and out come 12-byte records."
+-- A line of a listing and its record. Order 2: "one request per text line, the operation's number, then the fields it uses in record order, in
+-- decimal, single spaces, and out come 12-byte records."
 use mathlib.Core.Bool.{Bool, true, false, not, _&&_}
 use mathlib.Core.List.{List, [], _∷_, _++_}
 use mathlib.Core.Option.{Option, none, some}
@@ -76,7 +76,7 @@ digitsFrom n (c ∷ cs) = if isDigit c then digitsFrom (n * 10 + (c - 48)) cs el
 unfoldable pub numberFrom : List ℕ → Option Front
 numberFrom t = if digitFirst t then some (digitsFrom 0 t) else none
 
--- "a number too large for its field"
+-- order 2: "a number too large for its field"
 abbrev pub atMost : ℕ → Front → Option Front
 atMost most f = if leb (f .number) most then some f else none
 
@@ -95,7 +95,7 @@ unfoldable pub ended : List ℕ → List ℕ → Option (List ℕ)
 ended r [] = some r
 ended r (c ∷ cs) = none
 
--- "A line of over 40 characters before it"
+-- order 2: "A line of over 40 characters before it"
 abbrev pub lineMost : ℕ
 lineMost = 40
 
@@ -114,7 +114,7 @@ recordOf line =
     if ltb lineMost (length line) then none else
     (numberFrom line andThen λ a. getElem? operations (a .number) andThen λ u. fieldsFrom u a)
 
--- "if its numbers had no leading zeros": no 0 at a number's start has a digit after it. `start` says that no digit stands before
+-- order 2: "if its numbers had no leading zeros". No 0 at a number's start has a digit after it. `start` says that no digit stands before
 unfoldable pub plainFrom : Bool → List ℕ → Bool
 plainFrom start [] = true
 plainFrom start (c ∷ cs) = not (start && eqb c 48 && digitFirst cs) && plainFrom (not (isDigit c)) cs

@@ -1,5 +1,5 @@
--- A whole listing and its records: "Every line ends in a line feed." A bad line "stops the writer there with the earlier records
--- out. Refusals: bad line, with its number from 0." Records go to a listing in the same way.
+-- A whole listing and its records. Order 2: "Every line ends in a line feed." A bad line "stops the writer there with the earlier records out.
+-- Refusals: bad line, with its number from 0." Records go to a listing in the same way.
 use mathlib.Core.List.{List, [], _∷_, _++_, flatten}
 use mathlib.Core.Option.{Option, none, some}
 use Prim.Native.Nat.{ℕ, suc}
@@ -97,7 +97,7 @@ abbrev pub badWhat : Way → List ℕ
 badWhat ToRecords = ascii "bad line "
 badWhat ToListing = ascii "bad record "
 
--- "bad line, with its number from 0", where there is one
+-- order 2: "bad line, with its number from 0", where there is one
 abbrev pub refusalText : Way → Option ℕ → List ℕ
 refusalText w none = []
 refusalText w (some k) = badWhat w ++ (decimal k ++ ascii "\n")

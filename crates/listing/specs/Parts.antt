@@ -23,7 +23,7 @@ abbrev pub isBad : Option ℕ → Bool
 isBad none = false
 isBad (some k) = true
 
--- "A line of over 40 characters": one that has so many and has not ended yet is bad already
+-- order 2: "A line of over 40 characters". One that has so many and has not ended yet is bad already
 abbrev pub tooLong : Way → ℕ → Bool
 tooLong ToRecords n = ltb lineMost n
 tooLong ToListing n = false
@@ -32,9 +32,9 @@ tooLong ToListing n = false
 unfoldable pub stops : Way → List ℕ → Bool
 stops w come = isBad (partOf w come .bad) || tooLong w (length (cut w come .rest))
 
--- what goes before the next part
+-- what is held of it: what goes before the next part, and all where it is the last
 unfoldable pub holds : Way → List ℕ → List ℕ
-holds w come = if stops w come then [] else cut w come .rest
+holds w come = if stops w come then come else cut w come .rest
 
 -- PART AFTER PART
 

@@ -15,11 +15,11 @@ use Rattle.listing.specs.Listing.{textOf, write, list}
 abbrev pub Bytes : List ℕ → Type 0
 Bytes bs = (k : ℕ) → getD bs k 0 < 256
 
--- "Listing a record that −8 doesn't refuse, then writing it again, gives the same bytes"
+-- order 2: "Listing a record that −8 doesn't refuse, then writing it again, gives the same bytes"
 abbrev pub Listed : Type 0
 Listed = (r : List ℕ) → Bytes r → (q : Request) → decodeRequest r ≡ Asked q → (lineOf r andThen recordOf) ≡ some r
 
--- "an accepted line written and listed again gives the same line, if its numbers had no leading zeros"
+-- order 2: "an accepted line written and listed again gives the same line, if its numbers had no leading zeros"
 abbrev pub Written : Type 0
 Written = (l r : List ℕ) → recordOf l ≡ some r → plain l ≡ true → lineOf r ≡ some l
 

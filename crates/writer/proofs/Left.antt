@@ -15,7 +15,7 @@ use Rattle.writer.specs.Places.{placeAfter, Block}
 use Rattle.listing.specs.declared.Way.{Way}
 use Rattle.listing.proofs.Each.{each-all}
 use Rattle.listing.proofs.Cuts.{cut-whole}
-use Rattle.listing.proofs.InParts.{holds-none, holds-all}
+use Rattle.listing.proofs.InParts.{holds-come, holds-all}
 
 not-bad : (b : Option ℕ) → isBad b ≡ false → b ≡ none
 not-bad none e = refl
@@ -49,8 +49,8 @@ module _ {w : Way} {come out out′ : List ℕ} {done at next : ℕ} {bad : Bool
     asked : bad || tooLong w (n - at) ≡ stops w come
     asked = ap (λ (k : ℕ). bad || tooLong w (k - at)) (sym size) ∙ stops-known
 
-    pub stopped-here : bad || tooLong w (n - at) ≡ true → (true ≡ stops w come) × ([] ≡ holds w come)
-    stopped-here e = let s = sym asked ∙ e in (sym s, sym (holds-none w come s))
+    pub stopped-here : bad || tooLong w (n - at) ≡ true → (true ≡ stops w come) × (come ≡ holds w come)
+    stopped-here e = let s = sym asked ∙ e in (sym s, sym (holds-come w come s))
 
     pub went-on : bad || tooLong w (n - at) ≡ false → (false ≡ stops w come) × (drop at come ≡ holds w come) × (n - at ≡ length (holds w come))
     went-on e =

@@ -86,7 +86,7 @@ fn is_too_long(way: Way, n: usize) -> bool
 }
 
 // The first `n` bytes of the block have come, and the next line or record has number `number`: those that are whole are turned, up to the first
-// that is bad, and put to the start of `out`. What is left over moves to the front of the block, unless the text stops here.
+// that is bad, and put to the start of `out`. What is left over moves to the front of the block; where the text stops, all of it is held.
 pub fn turn(way: Way, number: u64, block: &mut [u8], n: usize, out: &mut [u8]) -> Turned
     requires { ⌜ n ≤ length (now block) ⌝ }
     requires { ⌜ number + n < 2 ^ 64 ⌝ }
@@ -106,7 +106,7 @@ pub fn turn(way: Way, number: u64, block: &mut [u8], n: usize, out: &mut [u8]) -
     if part.bad | is_too_long(way, n - at) {
         return Turned {
             number,
-            held: 0,
+            held: n,
             next,
             stopped: true,
         };

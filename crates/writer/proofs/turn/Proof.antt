@@ -5,6 +5,7 @@ use mathlib.Core.Bool.{_||_}
 use Prim.Native.Nat.{_+_}
 use lib.ListN.{length}
 use lib.Seq.{sets, length-take-le}
+use Rattle.parts.proofs.Behind.{stays}
 use Rattle.writer.proofs.Left.{stopped-here, went-on}
 use borrow.Author.Needs.{needs}
 use Rattle.writer.proofs.turn.Statement.{statement}
@@ -40,7 +41,7 @@ returns c =
     let turned = c .before .before .before .before .before .turn-block .ensures in
     let size = length-take-le (c .before .before .before .before .before .before .before .before .before .before .args .n) block (c .before .before .before .before .before .before .before .before .before .before .pre .0) in
     let s = stopped-here turned (c .before .before .before .before .before .before .before .before .before .before .args .n) size (ap (λ x. c .before .before .before .before .before .turn-block .result .bad || x) (sym (c .before .before .is-too-long .ensures)) ∙ c .if1 .taken) in
-    (ap (λ k. c .before .before .before .before .before .before .before .before .before .before .args .number + k) (turned .count), (omega (arith, turned .inside .1, size), (s .0, (ap length (s .1), (ap (sets block 0) (s .1), (turned .puts, omega (arith, turned .room, size, c .before .before .before .before .before .before .before .before .before .before .pre .1 .1)))))))
+    (ap (λ k. c .before .before .before .before .before .before .before .before .before .before .args .number + k) (turned .count), (omega (arith, turned .inside .1, size), (s .0, (sym size ∙ ap length (s .1), (sym (stays block (c .before .before .before .before .before .before .before .before .before .before .args .n) (c .before .before .before .before .before .before .before .before .before .before .pre .0)) ∙ ap (sets block 0) (s .1), (turned .puts, omega (arith, turned .room, size, c .before .before .before .before .before .before .before .before .before .before .pre .1 .1)))))))
 
 keep-requires : tie.Need-keep-requires
 keep-requires c κs = (omega (arith, c .before .before .before .before .before .before .turn-block .ensures .inside .0, length-take-le (c .before .before .before .before .before .before .before .before .before .before .before .args .n) (c .before .before .before .before .before .before .before .before .before .before .before .args .block .now) (c .before .before .before .before .before .before .before .before .before .before .before .pre .0)), c .before .before .before .before .before .before .before .before .before .before .before .pre .0)
