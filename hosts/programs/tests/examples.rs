@@ -1,5 +1,4 @@
-//! examples/ahead.trace holds the requests that examples/README.md says, and the compiled trace program prints the lines that it shows;
-//! examples/two-lanes.listing is the listing of examples/two-lanes.trace.
+//! What README.md and examples/README.md show of the examples is what the compiled programs print of them.
 
 use model::{operation as op, record, FOREVER, RECORD};
 use programs::{top, Program};
@@ -28,21 +27,43 @@ fn requests() -> [[u8; RECORD]; 16] {
     ]
 }
 
-/// The first cell of each row of the table, between back quotes.
-fn shown(page: &str) -> String {
-    let rows = page.lines().filter_map(|line| line.strip_prefix("| `"));
-    let lines = rows.filter_map(|row| row.split_once("` |"));
-    lines.map(|(line, _)| format!("{line}\n")).collect()
+fn page(path: &str) -> String {
+    fs::read_to_string(top().join(path)).expect("the page is there")
+}
+
+/// The cells of a page's tables that stand between back quotes, by row and column.
+fn cells(page: &str) -> Vec<Vec<Option<&str>>> {
+    let rows = page.lines().filter_map(|line| line.strip_prefix("| "));
+    rows.map(|row| row.split(" | ").map(quoted).collect())
+        .collect()
+}
+
+fn quoted(cell: &str) -> Option<&str> {
+    cell.strip_prefix('`')?.strip_suffix('`')
+}
+
+/// The column of the rows that have a text in it, and none to its left.
+fn column(page: &str, number: usize) -> String {
+    let rows = cells(page);
+    let firsts = rows
+        .iter()
+        .map(|row| row.iter().position(|cell| cell.is_some()));
+    let shown = rows
+        .iter()
+        .zip(firsts)
+        .filter(|(_, first)| *first == Some(0));
+    let texts = shown.filter_map(|(row, _)| *row.get(number)?);
+    texts.map(|text| format!("{text}\n")).collect()
 }
 
 #[test]
 fn the_line_for_the_motors_current() {
     let path = top().join("examples/ahead.trace");
     assert_eq!(fs::read(&path).expect("the example"), requests().concat());
-    let page = fs::read_to_string(top().join("examples/README.md")).expect("its page");
     let output = Program::Trace.fed_file(&path);
     let printed = String::from_utf8_lossy(&output.stdout);
-    assert_eq!(printed, shown(&page), "examples/README.md shows otherwise");
+    let shown = column(&page("examples/README.md"), 0);
+    assert_eq!(printed, shown, "examples/README.md shows otherwise");
     assert!(output.stderr.is_empty());
 }
 
@@ -59,4 +80,35 @@ fn the_listing_of_the_two_lane_printers_event() {
     let (trace, listing) = ("examples/two-lanes.trace", "examples/two-lanes.listing");
     makes(Program::List, trace, listing);
     makes(Program::Write, listing, trace);
+}
+
+#[test]
+fn the_lines_that_are_explained_are_those_of_the_listing() {
+    let listing = page("examples/two-lanes.listing");
+    let lines: Vec<&str> = listing.lines().collect();
+    let mut explained = 0;
+    for row in page("examples/README.md").lines() {
+        let mut cells = row.trim_start_matches("| ").split(" | ");
+        let number = cells.next().and_then(|cell| cell.parse::<usize>().ok());
+        let text = cells.next().and_then(quoted);
+        if let (Some(number), Some(text)) = (number, text) {
+            assert_eq!(lines[number], text, "line {number}");
+            explained += 1;
+        }
+    }
+    assert!(explained > 10, "{explained} lines are explained");
+}
+
+#[test]
+fn the_listing_that_is_typed_by_hand() {
+    let readme = page("README.md");
+    let listing = page("examples/typed.listing");
+    assert_eq!(column(&readme, 0), listing, "README.md shows other lines");
+    let records = Program::Write.fed(vec![listing.into_bytes()]).stdout;
+    let answers = Program::Trace.fed(vec![records]).stdout;
+    assert_eq!(
+        column(&readme, 1).as_bytes(),
+        answers,
+        "README.md shows other answers"
+    );
 }
