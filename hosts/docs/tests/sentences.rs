@@ -19,8 +19,8 @@ fn place(column: &str, name: &str) -> Option<(PathBuf, String)> {
         "Definition" => match name.split_once("::") {
             Some((file, item)) => (format!("crates/rules/src/{file}"), item),
             None => {
-                let (part, rest) = name.split_once('/').unwrap_or(("rules", name));
-                let (file, item) = rest.split_once('.')?;
+                let (path, item) = name.rsplit_once('.')?;
+                let (part, file) = path.split_once('.').unwrap_or(("rules", path));
                 (format!("crates/{part}/specs/{file}.antt"), item)
             }
         },
@@ -44,7 +44,7 @@ impl Known {
     /// What is wrong with a name of a column, if anything.
     fn fault(&mut self, column: &str, name: &str) -> Option<String> {
         let Some((file, item)) = place(column, name) else {
-            return Some(format!("`{name}` is no file and name; accepted are `File.name` and `crate/File.name` for a definition and `file.rs::name` else"));
+            return Some(format!("`{name}` is no file and name; accepted are `File.name` and `crate.File.name` for a definition and `file.rs::name` else"));
         };
         if !top().join(&file).is_file() {
             return Some(format!("`{name}`: there is no file {}", file.display()));
