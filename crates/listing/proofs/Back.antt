@@ -15,7 +15,8 @@ use Rattle.parts.specs.LeftOver.{leftOver}
 use Rattle.laws.proofs.Split.{and-true, and-both}
 use Rattle.listing.specs.Line.{isDigit, digitFirst, lineOf, recordOf, plainFrom, plain}
 use Rattle.listing.specs.Listing.{Out, lineFeed, textOf, linesOf, joined, each, turnedFrom}
-use Rattle.listing.specs.Trips.{Bytes, Whole, Same, WholeBack}
+use Rattle.request.specs.Trips.{Bytes}
+use Rattle.listing.specs.Trips.{Whole, Same, WholeBack}
 use Rattle.listing.specs.declared.Way.the-variants.{ToRecords, ToListing}
 use Rattle.listing.proofs.Trips.{read, line-back, written, taken-clean}
 use Rattle.listing.proofs.Texts.{first-line, text-of-lines}

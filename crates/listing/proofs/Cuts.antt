@@ -2,13 +2,12 @@
 -- were whole, then those of what was left over with the rest. Assumes nothing.
 use mathlib.Core.Path.{_≡_, refl, sym, ap, _∙_}
 use mathlib.Core.List.{List, [], _∷_, _++_, flatten, append-nil, append-assoc}
-use Prim.Native.Nat.{ℕ, zero, suc, _+_, _*_, _/_, _≤_}
+use Prim.Native.Nat.{ℕ, zero, suc, _+_, _*_, _/_}
 use native.Mathlib.Omega.{arith}
-use lib.ListN.{length, length-append, take, drop, take-append-drop, length-drop}
+use lib.ListN.{length, length-append, take, drop, take-append-drop}
 use lib.Seq.{drop-drop}
 use Rattle.rules.specs.Requests.{requestLength}
-use Rattle.rules.specs.Trace.{records, wholeRecords}
-use Rattle.parts.specs.LeftOver.{leftOver}
+use Rattle.rules.specs.Trace.{records}
 use Rattle.parts.proofs.Whole.{whole-append, left-append}
 use Rattle.listing.specs.Listing.{Cut, lineFeed, textOf, linesOf, cut, inputOf, bytesOf}
 use Rattle.listing.specs.declared.Way.{Way}

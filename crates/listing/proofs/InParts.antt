@@ -3,10 +3,10 @@
 use mathlib.Core.Path.{_≡_, refl, sym, ap, _∙_}
 use mathlib.Core.Bool.{Bool, true, false, _||_}
 use mathlib.Core.List.{List, [], _∷_, _++_, flatten, append-nil, append-assoc}
-use mathlib.Core.Option.{Option, none, some, Option·none-ne-some}
+use mathlib.Core.Option.{Option, none, some}
 use Prim.Native.Nat.{ℕ, suc, _+_, _≤_, _<_}
 use native.Mathlib.Omega.{arith}
-use lib.Dec.{eqb, ltb}
+use lib.Dec.{eqb}
 use lib.ListN.{length, length-append}
 use borrow.Author.Tests.{ltb-true}
 use Rattle.laws.proofs.Split.{is, isnt, test, clash, or-false}
@@ -17,7 +17,7 @@ use Rattle.listing.specs.Parts.{partOf, isBad, tooLong, stops, holds, is
 use Rattle.listing.specs.declared.Way.{Way}
 use Rattle.listing.specs.declared.Way.the-variants.{ToRecords, ToListing}
 use Rattle.listing.proofs.Trips.{too-long}
-use Rattle.listing.proofs.Each.{each-on, each-stop, Same, each-same, each-all}
+use Rattle.listing.proofs.Each.{each-on, each-stop, each-same, each-all}
 use Rattle.listing.proofs.Cuts.{cut-whole, cut-on, Open, left-open, none-open}
 
 -- some that are done before what comes out of the rest

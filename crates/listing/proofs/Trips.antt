@@ -13,28 +13,15 @@ use Rattle.rules.specs.Table.{wordAt}
 use Rattle.rules.specs.Requests.{Operation, operations, decodeRequest}
 use Rattle.text.specs.Text.{decimal}
 use Rattle.text.proofs.Decimal.{decimal-room}
-use Rattle.listing.specs.Line.{
-  Front,
-  _andThen_,
-  refused,
-  mostByte,
-  mostWord,
-  lineMost,
-  recordBytes,
-  fieldText,
-  lineText,
-  lineOf,
-  numberFrom,
-  fieldFrom,
-  ended,
-  fieldsFrom,
-  recordOf,
-  plainFrom,
-}
-use Rattle.listing.specs.Trips.{Bytes, Listed, Written, Asks}
+use Rattle.request.specs.Written.{recordBytes}
+use Rattle.listing.specs.Line.{Front, _andThen_, refused, mostByte, mostWord, lineMost, fieldText, lineText, lineOf, numberFrom, fieldFrom, ended, fieldsFrom, recordOf, plainFrom}
+use Rattle.request.specs.Trips.{Bytes}
+use Rattle.request.proofs.Parts.{Kept}
+use Rattle.request.proofs.Trips.{record-made}
+use Rattle.listing.specs.Trips.{Listed, Written, Asks}
 use Rattle.listing.proofs.Numbers.{clean, decimal-read}
 use Rattle.listing.proofs.Fields.{then-some, unless-some, field-stops, field-read, field-room, number-plain, number-clean, Field, field-of}
-use Rattle.listing.proofs.Requests.{Kept, parts-of, record-asks, fields-back, word-most, record-made}
+use Rattle.listing.proofs.Requests.{parts-of, record-asks, fields-back, word-most}
 
 -- FROM A RECORD TO ITS LINE AND BACK
 

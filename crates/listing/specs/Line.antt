@@ -7,10 +7,11 @@ use Prim.Native.Nat.{ℕ, _+_, _*_, _-_}
 use lib.Dec.{eqb, leb, ltb}
 use lib.ListN.{length, getD, getElem?}
 use Rattle.rules.specs.Basic.{if_then_else_}
-use Rattle.rules.specs.Table.{wordBytes, wordAt}
+use Rattle.rules.specs.Table.{wordAt}
 use Rattle.rules.specs.Requests.{Operation, operations, decodeRequest}
 use Rattle.rules.specs.declared.Decoded.{Decoded}
 use Rattle.rules.specs.declared.Decoded.the-variants.{Asked, Bad}
+use Rattle.request.specs.Written.{recordBytes}
 use Rattle.text.specs.Text.{ascii, decimal}
 
 -- FIELDS
@@ -21,10 +22,6 @@ mostByte = 255
 
 abbrev pub mostWord : ℕ
 mostWord = 4294967295
-
--- "Byte 0 operation; 1 object; 2 priority; 3 zero; 4-7 number; 8-11 data."
-abbrev pub recordBytes : ℕ → ℕ → ℕ → ℕ → ℕ → List ℕ
-recordBytes operation o p n d = operation ∷ o ∷ p ∷ 0 ∷ (wordBytes n ++ wordBytes d)
 
 -- FROM A RECORD TO ITS LINE, which is here without its line feed
 

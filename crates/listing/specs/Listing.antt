@@ -3,7 +3,6 @@
 use mathlib.Core.List.{List, [], _∷_, _++_, flatten}
 use mathlib.Core.Option.{Option, none, some}
 use Prim.Native.Nat.{ℕ, suc}
-use Prim.Native.String.{String}
 use lib.Dec.{eqb}
 use Rattle.rules.specs.Basic.{if_then_else_}
 use Rattle.rules.specs.Trace.{wholeRecords}

@@ -3,17 +3,15 @@ use mathlib.Core.Bool.{true}
 use mathlib.Core.List.{List, flatten}
 use mathlib.Core.Option.{none, some}
 use mathlib.Core.Path.{_≡_}
-use Prim.Native.Nat.{ℕ, _<_}
-use lib.ListN.{length, getD, take}
+use Prim.Native.Nat.{ℕ}
+use lib.ListN.{length, take}
 use Rattle.rules.specs.Requests.{decodeRequest}
 use Rattle.rules.specs.Trace.{wholeRecords}
 use Rattle.rules.specs.declared.Request.{Request}
 use Rattle.rules.specs.declared.Decoded.the-variants.{Asked}
+use Rattle.request.specs.Trips.{Bytes}
 use Rattle.listing.specs.Line.{_andThen_, lineOf, recordOf, plain}
 use Rattle.listing.specs.Listing.{textOf, write, list}
-
-abbrev pub Bytes : List ℕ → Type 0
-Bytes bs = (k : ℕ) → getD bs k 0 < 256
 
 -- order 2: "Listing a record that −8 doesn't refuse, then writing it again, gives the same bytes"
 abbrev pub Listed : Type 0

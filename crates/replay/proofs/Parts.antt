@@ -2,15 +2,13 @@
 -- whole prints. Assumes nothing.
 use mathlib.Core.Path.{_≡_, refl, sym, ap, _∙_}
 use mathlib.Core.List.{List, [], _∷_, _++_, map, flatten, append-assoc, append-nil}
-use Prim.Native.Nat.{ℕ, zero, suc, _+_, _*_, _/_, _%_, _≤_, _<_}
+use Prim.Native.Nat.{ℕ, suc, _+_, _*_, _/_, _%_, _<_}
 use native.Mathlib.Omega.{arith}
-use native.Mathlib.Nat.{zero-add, suc-add}
-use lib.ListN.{length, take, drop, length-append, length-drop}
-use lib.Seq.{drop-drop, take-append-le, drop-append-le}
+use lib.ListN.{length, drop}
 use Rattle.rules.specs.Board.{Board}
 use Rattle.rules.specs.Requests.{requestLength}
 use Rattle.rules.specs.Door.{door, freshTable, tableAfter}
-use Rattle.rules.specs.Trace.{records, cleanArea, cleanly, traceLine, traceFrom, shortLine, wholeRecords, traceOn, trace}
+use Rattle.rules.specs.Trace.{cleanArea, cleanly, traceLine, traceFrom, shortLine, wholeRecords, traceOn, trace}
 use Rattle.text.specs.Text.{traceText}
 use Rattle.text.proofs.Putting.{trace-append}
 use Rattle.parts.specs.LeftOver.{leftOver}

@@ -2,19 +2,19 @@
 -- and the request holds the others. Assumes nothing.
 use mathlib.Core.Path.{_≡_, refl, sym, ap, _∙_}
 use mathlib.Core.Bool.{Bool, true, false}
-use mathlib.Core.List.{List, [], _∷_, _++_}
+use mathlib.Core.List.{List, [], _∷_}
 use mathlib.Core.Option.{some}
 use Prim.Native.Nat.{ℕ, zero, suc, _+_}
 use native.Mathlib.Omega.{arith}
 use lib.ListN.{length, getD, getElem?}
 use borrow.Author.Tests.{eqb-true}
 use Rattle.rules.specs.Basic.{if_then_else_}
-use Rattle.rules.specs.Table.{wordBytes, wordAt}
+use Rattle.rules.specs.Table.{wordAt}
 use Rattle.rules.specs.Requests.{Operation, operations, requestLength, kept, decodeRequest}
 use Rattle.rules.specs.declared.Request.{Request}
 use Rattle.rules.specs.declared.Decoded.the-variants.{Asked}
 use Rattle.laws.proofs.Words.{word-of}
-use Rattle.request.specs.Written.{fieldsOf, written}
+use Rattle.request.specs.Written.{fieldsOf, recordBytes, written}
 use Rattle.request.specs.Trips.{Bytes, Trips}
 use Rattle.request.proofs.Back.{decode-written}
 use Rattle.request.proofs.Parts.{Kept, made, parts-asked, parts-of}
@@ -35,10 +35,6 @@ all-cells : (r : List ℕ) → r ≡ cells r 0 (length r)
 unfolding cells
 all-cells [] = refl
 all-cells (x ∷ r) = ap (λ (l : List ℕ). x ∷ l) (all-cells r ∙ sym (cells-behind x r 0 (length r)))
-
--- the record of an operation and its four fields
-abbrev pub recordBytes : ℕ → ℕ → ℕ → ℕ → ℕ → List ℕ
-recordBytes operation o p n d = operation ∷ o ∷ p ∷ 0 ∷ (wordBytes n ++ wordBytes d)
 
 pub record-made : (r : List ℕ) → Bytes r → length r ≡ requestLength → getD r 3 0 ≡ 0
     → r ≡ recordBytes (getD r 0 0) (getD r 1 0) (getD r 2 0) (wordAt r 4) (wordAt r 8)

@@ -29,5 +29,9 @@ fieldsOf Ask.Unlock = (18, 0, 0, 0, 0)
 fieldsOf Ask.Tick = (19, 0, 0, 0, 0)
 fieldsOf (Ask.Outcome thread) = (20, thread, 0, 0, 0)
 
+-- "Byte 0 operation; 1 object; 2 priority; 3 zero; 4-7 number; 8-11 data."
+abbrev pub recordBytes : ℕ → ℕ → ℕ → ℕ → ℕ → List ℕ
+recordBytes operation o p n d = operation ∷ o ∷ p ∷ 0 ∷ (wordBytes n ++ wordBytes d)
+
 unfoldable pub written : Request → List ℕ
-written r = let f = fieldsOf r in f .0 ∷ f .1 ∷ f .2 ∷ 0 ∷ (wordBytes (f .3) ++ wordBytes (f .4))
+written r = let f = fieldsOf r in recordBytes (f .0) (f .1) (f .2) (f .3) (f .4)

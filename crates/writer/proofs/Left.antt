@@ -2,11 +2,11 @@
 -- stops there exactly if a piece is bad or what is left over is too long. Assumes nothing.
 use mathlib.Core.Path.{_≡_, refl, sym, ap, _∙_}
 use mathlib.Core.Bool.{Bool, true, false, _||_}
-use mathlib.Core.List.{List, [], _++_}
+use mathlib.Core.List.{List, []}
 use mathlib.Core.Option.{Option, none, some}
-use Prim.Native.Nat.{ℕ, _+_, _-_, _≤_}
+use Prim.Native.Nat.{ℕ, _-_}
 use native.Mathlib.Omega.{arith}
-use lib.ListN.{length, length-append, length-drop, take, drop}
+use lib.ListN.{length, length-drop, drop}
 use lib.Seq.{drop-at, take-all}
 use Rattle.laws.proofs.Split.{clash, or-false}
 use Rattle.listing.specs.Listing.{cut, inputOf, rule, each}

@@ -14,7 +14,8 @@ use Rattle.rules.specs.Requests.{Operation, operations, kept, askedBy, requestO
 use Rattle.rules.specs.declared.Request.{Request}
 use Rattle.rules.specs.declared.Decoded.the-variants.{Asked, Bad}
 use Rattle.laws.proofs.Split.{is, clash}
-use Rattle.listing.specs.Line.{_andThen_, fieldFrom, fieldsFrom, ended, recordBytes, mostByte, mostWord, refused, fieldText, lineText, lineOf}
+use Rattle.request.specs.Written.{recordBytes}
+use Rattle.listing.specs.Line.{_andThen_, fieldFrom, fieldsFrom, ended, mostByte, mostWord, refused, fieldText, lineText, lineOf}
 use Rattle.listing.specs.Listing.{lineFeed}
 use Rattle.writer.specs.Places.{fieldAt, fieldsAt, takes, fed, takenText}
 use Rattle.writer.specs.declared.Number.{Number}

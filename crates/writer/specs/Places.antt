@@ -1,6 +1,6 @@
 -- What the code answers of a line, by places in it: a number and the place after it, and the fields of the record.
 use mathlib.Core.Bool.{Bool, true, false, not}
-use mathlib.Core.List.{List, [], _∷_, _++_, flatten}
+use mathlib.Core.List.{List, [], _∷_, _++_}
 use mathlib.Core.Option.{Option, none, some}
 use mathlib.Core.Path.{_≡_}
 use Prim.Native.Nat.{ℕ, suc, _+_, _*_, _-_, _≤_, min}
@@ -8,13 +8,13 @@ use lib.Dec.{eqb, leb}
 use lib.ListN.{length, take, drop, getElem?}
 use Rattle.rules.specs.Basic.{if_then_else_, find}
 use Rattle.rules.specs.Requests.{operations, requestOf}
-use Rattle.listing.specs.Line.{Front, _andThen_, mostWord, recordBytes, fieldText, fieldsFrom, refused, numberFrom, fieldFrom}
+use Rattle.request.specs.Written.{recordBytes}
+use Rattle.listing.specs.Line.{Front, _andThen_, mostWord, fieldText, fieldsFrom, refused, numberFrom, fieldFrom}
 use Rattle.listing.specs.Listing.{lineFeed, cut, inputOf, bytesOf}
 use Rattle.listing.specs.Parts.{partOf, isBad}
 use Rattle.text.specs.Text.{decimal}
 use Rattle.text.specs.Puts.{Puts}
 use Rattle.listing.specs.declared.Way.{Way}
-use Rattle.listing.specs.declared.Way.the-variants.{ToRecords, ToListing}
 use Rattle.writer.specs.declared.Number.{Number}
 use Rattle.writer.specs.declared.Number.the-variants.{NoNumber, Read}
 use Rattle.writer.specs.declared.Line.{Line}

@@ -1,6 +1,6 @@
 -- `writer::turn` meets its contract: what stands behind the pieces that are done is what is left over. Assumes nothing.
 use native.Mathlib.Omega.{arith}
-use mathlib.Core.Path.{_≡_, refl, sym, ap, _∙_}
+use mathlib.Core.Path.{sym, ap, _∙_}
 use mathlib.Core.Bool.{_||_}
 use Prim.Native.Nat.{_+_}
 use lib.ListN.{length}

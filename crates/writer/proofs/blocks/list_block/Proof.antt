@@ -1,9 +1,8 @@
 -- `writer::blocks::list_block` meets its contract: at each turn the records before `at` are listed. Assumes nothing.
 use mathlib.Core.Path.{_≡_, refl, _∙_}
-use Prim.Native.Nat.{_≤_, _-_}
+use Prim.Native.Nat.{_-_}
 use native.Mathlib.Omega.{arith}
 use lib.ListN.{length}
-use borrow.Author.Needs.{needs}
 use Rattle.listing.specs.declared.Way.the-variants.{ToListing}
 use Rattle.writer.proofs.Block.{Sofar, none-yet}
 use Rattle.writer.proofs.Pieces.{record-taken, record-bad, records-end}

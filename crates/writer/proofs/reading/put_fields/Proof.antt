@@ -6,7 +6,8 @@ use native.Mathlib.Omega.{arith}
 use lib.ListN.{set, length-set}
 use lib.Seq.{sets}
 use Rattle.rules.specs.Table.{wordBytes}
-use Rattle.listing.specs.Line.{recordBytes}
+use Rattle.request.specs.Written.{recordBytes}
+use Rattle.listing.specs.Line.{}
 use borrow.Author.Needs.{needs}
 use Rattle.writer.proofs.reading.put_fields.Statement.{statement}
 use Rattle.writer.proofs.reading.put_fields.Tie as tie
