@@ -3,11 +3,16 @@
 -- line or refuses what is not bad does not meet it.
 use mathlib.Core.Path.{_≡_}
 use mathlib.Core.List.{List, _++_}
-use Prim.Native.Nat.{ℕ}
+use Prim.Native.Nat.{ℕ, _*_}
 use lib.ListN.{length}
+use Rattle.rules.specs.Requests.{requestLength}
 use Rattle.listing.specs.Listing.{turned, refusalText}
 use Rattle.listing.specs.Parts.{isBad}
 use Rattle.listing.specs.declared.Way.{Way}
+
+-- the bytes that a block holds: 1,024 records
+abbrev pub blockLength : ℕ
+blockLength = 1024 * requestLength
 
 -- the run ends: so many bytes have come, `number` of their lines or records are done, up to the first that is bad; `held` is what is left over, or the
 -- whole part in which a bad one stands; and `said` is what is said of that one

@@ -9,11 +9,11 @@ ghost use Rattle.rules.specs.Basic.{if_then_else_};
 ghost use Rattle.text.specs.Puts.{Puts};
 ghost use Rattle.listing.specs.Listing.{refusalText};
 ghost use Rattle.writer.specs.Places.{partRoom, refusalRoom};
-ghost use Rattle.exchange.specs.Going.{Ended};
+ghost use Rattle.exchange.specs.Going.{blockLength, Ended};
 use listing::Way;
 
 // A block holds 1,024 records, so that a file's reads leave nothing over.
-pub const BLOCK: usize = 12288;
+pub const BLOCK: usize = 1024 * rules::REQUEST;
 
 // The room for what comes out of a block: a record of 12 bytes for each two, and a longest line.
 pub const OUT: usize = 6 * BLOCK + 48;
@@ -56,8 +56,8 @@ fn close(
 
 // The whole input is turned, part by part, for the program of that name. A failure is said on standard error and ends it.
 pub fn run(name: &[u8], way: Way, block: &mut [u8], out: &mut [u8]) -> Done
-    requires { ⌜ length (now block) ≡ 12288 ⌝ }
-    requires { ⌜ length (now out) ≡ partRoom 12288 ⌝ }
+    requires { ⌜ length (now block) ≡ blockLength ⌝ }
+    requires { ⌜ length (now out) ≡ partRoom blockLength ⌝ }
     ensures { λ r. ⌜ Ended way (r .bytes) (r .number) (take (r .held) (now (block .exit))) (take (r .next) (now (out .exit))) ⌝ }
 {
     let mut bytes: u64 = 0;

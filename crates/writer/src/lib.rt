@@ -31,7 +31,7 @@ const LINE_MOST: usize = 40;
 // A number that stands in a line, 2^32 in the place of a larger one, and the place after it.
 pub enum Number {
     NoNumber,
-    Read { value: u64, next: usize },
+    Read(u64, usize),
 }
 
 // What a line says.
@@ -120,7 +120,7 @@ pub fn turn(way: Way, number: u64, block: &mut [u8], n: usize, out: &mut [u8]) -
     }
 }
 
-// What is bad.
+// What is bad, at the start of `out`; the place after it.
 fn put_what(way: Way, out: &mut [u8]) -> usize
     requires { ⌜ refusalRoom ≤ length (now out) ⌝ }
     ensures { λ next. ⌜ Puts (now (out .entry)) 0 (badWhat way) (now (out .exit)) next ⌝ }
@@ -132,7 +132,7 @@ fn put_what(way: Way, out: &mut [u8]) -> usize
     }
 }
 
-// "Refusals: bad line, with its number from 0." Where there is one, it goes to the start of `out`; the place after it is given back.
+// Order 2: "Refusals: bad line, with its number from 0." Where there is one, it goes to the start of `out`; the place after it is given back.
 pub fn refuse(way: Way, number: u64, bad: bool, out: &mut [u8]) -> usize
     requires { ⌜ refusalRoom ≤ length (now out) ⌝ }
     ensures line { λ next. ⌜ Puts (now (out .entry)) 0 (refusalText way (if bad then some number else none)) (now (out .exit)) next ⌝ }

@@ -5,6 +5,7 @@ ghost use Prim.Native.Nat.{_+_, _*_, _-_, _≤_, _<_, min};
 ghost use lib.ListN.{length, getD, drop};
 ghost use lib.Seq.{sets};
 ghost use lib.Dec.{eqb};
+ghost use Rattle.rules.specs.Requests.{requestLength};
 ghost use Rattle.request.specs.Written.{recordBytes};
 ghost use Rattle.listing.specs.Line.{isDigit, digitFirst, mostWord, recordOf};
 ghost use Rattle.writer.specs.Places.{tooLarge, numberAt, fieldAt, bounded, fieldsAt, bytesRead, given, isGiven};
@@ -16,10 +17,11 @@ use crate::Number;
 use crate::TOO_LARGE;
 use crate::asks;
 
+// Is a character a digit.
 fn is_digit(c: u8) -> bool
     ensures { λ r. ⌜ r ≡ isDigit c ⌝ }
 {
-    (48 <= c) & (c <= 57)
+    (b'0' <= c) & (c <= b'9')
 }
 
 // Does a digit stand at a place of the line.
@@ -40,7 +42,7 @@ fn with_digit(n: u64, c: u8) -> u64
     requires { ⌜ (n ≤ tooLarge) × (isDigit c ≡ true) ⌝ }
     ensures { λ r. ⌜ r ≡ min (n * 10 + (c - 48)) tooLarge ⌝ }
 {
-    let m = n * 10 + (c - 48) as u64;
+    let m = n * 10 + (c - b'0') as u64;
     if m < TOO_LARGE { m } else { TOO_LARGE }
 }
 
@@ -58,7 +60,7 @@ fn number_at(line: &[u8], at: usize) -> Number
         value = with_digit(value, line[i]);
         i += 1;
     }
-    Number::Read { value, next: i }
+    Number::Read(value, i)
 }
 
 // A number that is not above `most`.
@@ -67,9 +69,9 @@ fn at_most(n: Number, most: u64) -> Number
 {
     match n {
         Number::NoNumber => Number::NoNumber,
-        Number::Read { value, next } => {
+        Number::Read(value, next) => {
             if value <= most {
-                Number::Read { value, next }
+                Number::Read(value, next)
             } else {
                 Number::NoNumber
             }
@@ -96,7 +98,7 @@ fn field_at(line: &[u8], at: usize, used: bool, most: u64) -> Number
     ensures { λ r. ⌜ r ≡ fieldAt used most (now (line .entry)) at ⌝ }
 {
     if !used {
-        return Number::Read { value: 0, next: at };
+        return Number::Read(0, at);
     }
     if !space_at(line, at) {
         return Number::NoNumber;
@@ -113,35 +115,19 @@ fn fields_at(line: &[u8], at: usize, operation: u8) -> Line
         return Line::BadLine;
     }
     let o = field_at(line, at, asks::takes(operation, 1, 0, 0, 0), MOST_BYTE);
-    let Number::Read {
-        value: object,
-        next: a,
-    } = o
-    else {
+    let Number::Read(object, a) = o else {
         return Line::BadLine;
     };
     let p = field_at(line, a, asks::takes(operation, 0, 1, 0, 0), MOST_BYTE);
-    let Number::Read {
-        value: priority,
-        next: b,
-    } = p
-    else {
+    let Number::Read(priority, b) = p else {
         return Line::BadLine;
     };
     let n = field_at(line, b, asks::takes(operation, 0, 0, 1, 0), MOST_WORD);
-    let Number::Read {
-        value: number,
-        next: c,
-    } = n
-    else {
+    let Number::Read(number, c) = n else {
         return Line::BadLine;
     };
     let d = field_at(line, c, asks::takes(operation, 0, 0, 0, 1), MOST_WORD);
-    let Number::Read {
-        value: parcel,
-        next: end,
-    } = d
-    else {
+    let Number::Read(parcel, end) = d else {
         return Line::BadLine;
     };
     if end != line.len() {
@@ -168,7 +154,7 @@ fn read_line(line: &[u8]) -> Line
         return Line::BadLine;
     }
     let n = number_at(line, 0);
-    let Number::Read { value, next } = n else {
+    let Number::Read(value, next) = n else {
         return Line::BadLine;
     };
     if MOST_BYTE < value {
@@ -187,7 +173,7 @@ fn put_fields(
     number: u32,
     parcel: u32,
 )
-    requires { ⌜ at + 12 ≤ length (now out) ⌝ }
+    requires { ⌜ at + requestLength ≤ length (now out) ⌝ }
     ensures { λ _. ⌜ now (out .exit) ≡ sets (now (out .entry)) at (recordBytes operation object priority number parcel) ⌝ }
 {
     out[at] = operation;
@@ -198,8 +184,9 @@ fn put_fields(
     words::put_word(out, at + 8, parcel);
 }
 
+// The record of what a line says, written from byte `at` on; false and nothing of a bad line.
 fn put_read(out: &mut [u8], at: usize, line: Line) -> bool
-    requires { ⌜ at + 12 ≤ length (now out) ⌝ }
+    requires { ⌜ at + requestLength ≤ length (now out) ⌝ }
     ensures { λ r. ⌜ r ≡ isGiven (bytesRead line) ⌝ }
     ensures { λ _. ⌜ now (out .exit) ≡ sets (now (out .entry)) at (given (bytesRead line)) ⌝ }
 {
@@ -220,7 +207,7 @@ fn put_read(out: &mut [u8], at: usize, line: Line) -> bool
 
 // The record of a line, without its line feed, written from byte `at` on; false and nothing of a bad line.
 pub fn write_line(line: &[u8], out: &mut [u8], at: usize) -> bool
-    requires { ⌜ at + 12 ≤ length (now out) ⌝ }
+    requires { ⌜ at + requestLength ≤ length (now out) ⌝ }
     ensures { λ r. ⌜ r ≡ isGiven (recordOf (now (line .entry))) ⌝ }
     ensures { λ _. ⌜ now (out .exit) ≡ sets (now (out .entry)) at (given (recordOf (now (line .entry)))) ⌝ }
 {

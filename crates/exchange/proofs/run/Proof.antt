@@ -9,14 +9,15 @@ use lib.Seq.{length-take-le}
 use borrow.Author.Needs.{needs}
 use Rattle.laws.proofs.Split.{or-false}
 use Rattle.listing.proofs.InParts.{holds-room}
+use Rattle.exchange.specs.Going.{blockLength}
 use Rattle.exchange.proofs.Turns.{Going, none-seen, turned-on, turned-end, same-held, ended-going}
 use Rattle.exchange.proofs.run.Statement.{statement}
 use Rattle.exchange.proofs.run.Tie as tie
 
 abbrev Inv-loop : tie.InvT-loop
 Inv-loop name way block₀ out₀ bytes₀ number₀ held₀ reads₀ block out bytes number held reads =
-    (length out ≡ length out₀) × (length block ≡ length block₀) × (held ≤ 12288)
-    × (number + 12288 * reads + 12288 < 2 ^ 64) × (bytes + 12288 * reads + 12288 < 2 ^ 64) × Going way bytes number (take held block)
+    (length out ≡ length out₀) × (length block ≡ length block₀) × (held ≤ blockLength)
+    × (number + blockLength * reads + blockLength < 2 ^ 64) × (bytes + blockLength * reads + blockLength < 2 ^ 64) × Going way bytes number (take held block)
 
 abbrev μ-loop : tie.MeasureT-loop
 μ-loop name way block₀ out₀ bytes₀ number₀ held₀ reads₀ block out bytes number held reads = reads
