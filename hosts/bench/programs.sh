@@ -1,7 +1,7 @@
 #!/usr/bin/env bash
 # The programs' time for some 1,000,000 records beside the door's own: hosts/bench/programs.sh LIBDIR BIN, the folder that has libkernel.a
 # and the folder that has the programs. The records are those of the printer of hosts/printer; write gets the listing that list makes of
-# them. Ends with status 1 where a program takes above 1.5 times the door's time.
+# them, and then as many of the longest lines. Ends with status 1 where a program takes above 1.5 times the door's time.
 set -euo pipefail
 
 stop() {
@@ -28,8 +28,11 @@ done
 ../x86_64 run "$bin/list" <"$room/requests" >"$room/listing"
 ../x86_64 run "$bin/write" <"$room/listing" | cmp - "$room/requests" || stop "the listing of the records is written to other records"
 records=$(($(stat -c %s "$room/requests") / 12))
+# as many of the longest lines that there are
+awk -v n="$records" 'BEGIN { while (n--) print "8 255 4294967295 00000000000004294967295" }' >"$room/longest"
+../x86_64 run "$bin/write" <"$room/longest" >"$room/widest"
 
-# NAME PROGRAM INPUT: one run; its processor time in milliseconds goes to took[NAME] where it is the least so far
+# ROW PROGRAM INPUT: one run; its processor time in milliseconds goes to took[ROW] where it is the least so far
 declare -A took
 run() {
   local user system now
@@ -39,26 +42,30 @@ run() {
   if [ -z "${took[$1]-}" ] || [ "$now" -lt "${took[$1]}" ]; then took[$1]=$now; fi
 }
 
-# NAME: is its least time within 1.5 times the door's least?
+# ROW: is its least time within 1.5 times the door's least?
 within() { [ $((took[$1] * 10)) -le $((took[door] * 15)) ]; }
 
 # A run takes a tenth of a second, and what else the machine does can double it for seconds: all are run in turns, three times, and on while one
 # is over, up to forty times.
+rows=(trace write list "write, lines of 40 characters" "list, their records")
 for round in {1..40}; do
   run door "$room/serve" "$room/requests"
   run trace "$bin/trace" "$room/requests"
   run write "$bin/write" "$room/listing"
   run list "$bin/list" "$room/requests"
-  [ "$round" -lt 3 ] || ! within trace || ! within write || ! within list || break
+  run "${rows[3]}" "$bin/write" "$room/longest"
+  run "${rows[4]}" "$bin/list" "$room/widest"
+  over=0
+  for row in "${rows[@]}"; do within "$row" || over=1; done
+  [ "$round" -lt 3 ] || [ "$over" -ne 0 ] || break
 done
 
 where=''
 if ../x86_64 emulated; then where=', all under the emulator'; fi
 printf '%d records%s, the least of %d runs: the door alone %d ms\n' "$records" "$where" "$round" "${took[door]}"
-over=0
-for program in trace write list; do
+for row in "${rows[@]}"; do
   verdict=OK
-  within "$program" || { verdict=OVER && over=1; }
-  awk "BEGIN { printf \"the %s program %d ms, %.2f times; at most 1.5: %s\n\", \"$program\", ${took[$program]}, ${took[$program]} / ${took[door]}, \"$verdict\" }"
+  within "$row" || verdict=OVER
+  awk "BEGIN { printf \"%s: %d ms, %.2f times; at most 1.5: %s\n\", \"$row\", ${took[$row]}, ${took[$row]} / ${took[door]}, \"$verdict\" }"
 done
 exit "$over"
