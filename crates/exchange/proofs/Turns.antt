@@ -14,7 +14,7 @@ use Rattle.rules.specs.Basic.{if_then_else_}
 use Rattle.text.specs.Puts.{Puts}
 use Rattle.text.proofs.Putting.{front, puts-front}
 use Rattle.parts.proofs.Behind.{come, part-size}
-use Rattle.listing.specs.Listing.{Out, cut, inputOf, turnedFrom, turned, refusalText}
+use Rattle.listing.specs.Listing.{Out, cut, inputOf, turnedFrom, refusalText}
 use Rattle.listing.specs.Parts.{partOf, isBad, stops, holds, isSome}
 use Rattle.listing.specs.declared.Way.{Way}
 use Rattle.listing.proofs.Cuts.{cut-whole, Open, left-open, none-open}
@@ -22,37 +22,37 @@ use Rattle.listing.proofs.InParts.{before, goes-on, stops-there, last-open, hol
 use Rattle.exchange.specs.Going.{Ended}
 
 -- so many bytes have come, `number` lines or records of them are done, and none of them is bad; these bytes are held
-pub record Going (w : Way) (bytes number : ℕ) (held : List ℕ) : Type 0 where
+pub record Going (w : Way) (first bytes number : ℕ) (held : List ℕ) : Type 0 where
   pub seen : List ℕ
   pub front : List ℕ
   pub ends : seen ≡ front ++ held
   pub done : List (List ℕ)
   pub size : length seen ≡ bytes
-  pub count : length done ≡ number
+  pub count : first + length done ≡ number
   pub left : Open w held
-  pub whole : (more : List ℕ) → turned w (seen ++ more) ≡ before done (turnedFrom w number (held ++ more))
+  pub whole : (more : List ℕ) → turnedFrom w first (seen ++ more) ≡ before done (turnedFrom w number (held ++ more))
 
 -- a bad one has stopped it, in a part that is held
-pub record Stopped (w : Way) (bytes number : ℕ) (held : List ℕ) : Type 0 where
+pub record Stopped (w : Way) (first bytes number : ℕ) (held : List ℕ) : Type 0 where
   pub seen : List ℕ
   pub front : List ℕ
   pub ends : seen ≡ front ++ held
   pub done : List (List ℕ)
   pub size : length seen ≡ bytes
-  pub count : length done ≡ number
-  pub whole : turned w seen ≡ record { done = done; bad = some number }
-  pub own : isBad (turned w held .bad) ≡ true
+  pub count : first + length done ≡ number
+  pub whole : turnedFrom w first seen ≡ record { done = done; bad = some number }
+  pub own : isBad (turnedFrom w first held .bad) ≡ true
 
-pub none-seen : (w : Way) (block : List ℕ) → Going w 0 0 (take 0 block)
-none-seen w block = record { seen = []; front = []; ends = refl; done = []; size = refl; count = refl; left = none-open w; whole = λ more. refl }
+pub none-seen : (w : Way) (first : ℕ) (block : List ℕ) → Going w first 0 first (take 0 block)
+none-seen w first block = record { seen = []; front = []; ends = refl; done = []; size = refl; count = omega arith; left = none-open w; whole = λ more. refl }
 
-module _ {w : Way} {bytes number : ℕ} {held : List ℕ} (g : Going w bytes number held) (part : List ℕ) where
+module _ {w : Way} {first bytes number : ℕ} {held : List ℕ} (g : Going w first bytes number held) (part : List ℕ) where
   abbrev now : List ℕ
   now = held ++ part
 
-  joins : (more : List ℕ) → turned w ((g .seen ++ part) ++ more) ≡ before (g .done) (turnedFrom w number (now ++ more))
+  joins : (more : List ℕ) → turnedFrom w first ((g .seen ++ part) ++ more) ≡ before (g .done) (turnedFrom w number (now ++ more))
   joins more =
-      ap (turned w) (append-assoc (g .seen) part more) ∙ g .whole (part ++ more) ∙ ap (λ (l : List ℕ). before (g .done) (turnedFrom w number l)) (sym (append-assoc held part more))
+      ap (turnedFrom w first) (append-assoc (g .seen) part more) ∙ g .whole (part ++ more) ∙ ap (λ (l : List ℕ). before (g .done) (turnedFrom w number l)) (sym (append-assoc held part more))
 
   ends-on : g .seen ++ part ≡ g .front ++ now
   ends-on = ap (λ (l : List ℕ). l ++ part) (g .ends) ∙ append-assoc (g .front) held part
@@ -60,10 +60,10 @@ module _ {w : Way} {bytes number : ℕ} {held : List ℕ} (g : Going w bytes num
   size-on : length (g .seen ++ part) ≡ bytes + length part
   size-on = length-append (g .seen) part ∙ ap (λ (k : ℕ). k + length part) (g .size)
 
-  count-on : length (g .done ++ partOf w now .done) ≡ number + length (partOf w now .done)
-  count-on = length-append (g .done) (partOf w now .done) ∙ ap (λ (k : ℕ). k + length (partOf w now .done)) (g .count)
+  count-on : first + length (g .done ++ partOf w now .done) ≡ number + length (partOf w now .done)
+  count-on = omega (arith, length-append (g .done) (partOf w now .done), g .count)
 
-  going-on : stops w now ≡ false → Going w (bytes + length part) (number + length (partOf w now .done)) (holds w now)
+  going-on : stops w now ≡ false → Going w first (bytes + length part) (number + length (partOf w now .done)) (holds w now)
   going-on e = record {
     seen = g .seen ++ part;
     front = g .front ++ inputOf w (cut w now .pieces);
@@ -84,7 +84,7 @@ module _ {w : Way} {bytes number : ℕ} {held : List ℕ} (g : Going w bytes num
         ∙ ap (λ (l : List ℕ). before (g .done ++ partOf w now .done) (turnedFrom w (number + length (partOf w now .done)) (l ++ more))) (sym (holds-all w now e));
   }
 
-  stopped-by : stops w now ≡ true → Stopped w (bytes + length part) (number + length (partOf w now .done)) (holds w now)
+  stopped-by : stops w now ≡ true → Stopped w first (bytes + length part) (number + length (partOf w now .done)) (holds w now)
   stopped-by e = record {
     seen = g .seen ++ part;
     front = g .front;
@@ -92,10 +92,10 @@ module _ {w : Way} {bytes number : ℕ} {held : List ℕ} (g : Going w bytes num
     done = g .done ++ partOf w now .done;
     size = size-on;
     count = count-on;
-    whole = ap (turned w) (sym (append-nil (g .seen ++ part))) ∙ joins [] ∙ ap (before (g .done)) (stops-there w number now [] e);
+    whole = ap (turnedFrom w first) (sym (append-nil (g .seen ++ part))) ∙ joins [] ∙ ap (before (g .done)) (stops-there w number now [] e);
     own =
-        ap (λ (l : List ℕ). isBad (turned w l .bad)) (holds-come w now e ∙ sym (append-nil now))
-        ∙ ap (λ (o : Out). isBad (o .bad)) (stops-there w 0 now [] e);
+        ap (λ (l : List ℕ). isBad (turnedFrom w first l .bad)) (holds-come w now e ∙ sym (append-nil now))
+        ∙ ap (λ (o : Out). isBad (o .bad)) (stops-there w first now [] e);
   }
 
 -- THE END
@@ -109,13 +109,13 @@ one-bad : (b : Bool) (k j : ℕ) → isBad (if b then some k else none) ≡ isBa
 one-bad true k j = refl
 one-bad false k j = refl
 
-module _ {w : Way} {bytes bytes′ number number′ held held′ : ℕ} {out out′ : List ℕ} {next : ℕ} (block : List ℕ) (eb : bytes′ ≡ bytes) (en : number′ ≡ number) (eh : held′ ≡ held) (room : next ≤ length out) where
-  pub ended-going : held ≤ length block → Going w bytes number (take held block)
-      → Puts out 0 (refusalText w (if ltb 0 held then some number else none)) out′ next → Ended w bytes′ number′ (take held′ block) (take next out′)
+module _ {w : Way} {first bytes bytes′ number number′ held held′ : ℕ} {out out′ : List ℕ} {next : ℕ} (block : List ℕ) (eb : bytes′ ≡ bytes) (en : number′ ≡ number) (eh : held′ ≡ held) (room : next ≤ length out) where
+  pub ended-going : held ≤ length block → Going w first bytes number (take held block)
+      → Puts out 0 (refusalText w (if ltb 0 held then some number else none)) out′ next → Ended w first bytes′ number′ (take held′ block) (take next out′)
   ended-going inside g p =
       let some-left : isSome (take held block) ≡ ltb 0 held = some-held (take held block) ∙ ap (λ (k : ℕ). ltb 0 k) (length-take-le held block inside) in
-      let whole : turned w (g .seen) ≡ record { done = g .done; bad = if isSome (take held block) then some number else none } =
-      ap (turned w) (sym (append-nil (g .seen)))
+      let whole : turnedFrom w first (g .seen) ≡ record { done = g .done; bad = if isSome (take held block) then some number else none } =
+      ap (turnedFrom w first) (sym (append-nil (g .seen)))
       ∙ g .whole []
       ∙ ap (λ (x : List ℕ). before (g .done) (turnedFrom w number x)) (append-nil (take held block))
       ∙ ap (before (g .done)) (last-open w number (take held block) (g .left))
@@ -125,34 +125,34 @@ module _ {w : Way} {bytes bytes′ number number′ held held′ : ℕ} {out out
         front = g .front;
         ends = g .ends ∙ ap (λ (l : List ℕ). g .front ++ l) (ap (λ (k : ℕ). take k block) (sym eh));
         size = g .size ∙ sym eb;
-        count = ap (λ (o : Out). length (o .done)) whole ∙ g .count ∙ sym en;
+        count = ap (λ (o : Out). first + length (o .done)) whole ∙ g .count ∙ sym en;
         says =
             puts-front p room
             ∙ ap (λ (b : Bool). refusalText w (if b then some number else none)) (sym some-left)
             ∙ ap (λ (o : Out). refusalText w (o .bad)) (sym whole);
         own =
             ap (λ (o : Out). isBad (o .bad)) whole
-            ∙ one-bad (isSome (take held block)) number 0
-            ∙ ap (λ (o : Out). isBad (o .bad)) (sym (last-open w 0 (take held block) (g .left)))
-            ∙ ap (λ (l : List ℕ). isBad (turned w l .bad)) (ap (λ (k : ℕ). take k block) (sym eh));
+            ∙ one-bad (isSome (take held block)) number first
+            ∙ ap (λ (o : Out). isBad (o .bad)) (sym (last-open w first (take held block) (g .left)))
+            ∙ ap (λ (l : List ℕ). isBad (turnedFrom w first l .bad)) (ap (λ (k : ℕ). take k block) (sym eh));
       }
 
-  pub ended-stopped : Stopped w bytes number (take held block) → Puts out 0 (refusalText w (some number)) out′ next → Ended w bytes′ number′ (take held′ block) (take next out′)
+  pub ended-stopped : Stopped w first bytes number (take held block) → Puts out 0 (refusalText w (some number)) out′ next → Ended w first bytes′ number′ (take held′ block) (take next out′)
   ended-stopped s p = record {
     seen = s .seen;
     front = s .front;
     ends = s .ends ∙ ap (λ (l : List ℕ). s .front ++ l) (ap (λ (k : ℕ). take k block) (sym eh));
     size = s .size ∙ sym eb;
-    count = ap (λ (o : Out). length (o .done)) (s .whole) ∙ s .count ∙ sym en;
+    count = ap (λ (o : Out). first + length (o .done)) (s .whole) ∙ s .count ∙ sym en;
     says = puts-front p room ∙ ap (λ (o : Out). refusalText w (o .bad)) (sym (s .whole));
-    own = ap (λ (o : Out). isBad (o .bad)) (s .whole) ∙ sym (s .own) ∙ ap (λ (l : List ℕ). isBad (turned w l .bad)) (ap (λ (k : ℕ). take k block) (sym eh));
+    own = ap (λ (o : Out). isBad (o .bad)) (s .whole) ∙ sym (s .own) ∙ ap (λ (l : List ℕ). isBad (turnedFrom w first l .bad)) (ap (λ (k : ℕ). take k block) (sym eh));
   }
 
 -- READS
 
 -- so many bytes are held at the front of the block and stay, and a read has put others behind them
-module _ {w : Way} {bytes number : ℕ} (block block′ : List ℕ) (held n : ℕ) (stay : take held block′ ≡ take held block) (behind : held ≤ n) (inside : n ≤ length block′)
-    (g : Going w bytes number (take held block)) where
+module _ {w : Way} {first bytes number : ℕ} (block block′ : List ℕ) (held n : ℕ) (stay : take held block′ ≡ take held block) (behind : held ≤ n) (inside : n ≤ length block′)
+    (g : Going w first bytes number (take held block)) where
   abbrev all : List ℕ
   all = take n block′
 
@@ -162,27 +162,27 @@ module _ {w : Way} {bytes number : ℕ} (block block′ : List ℕ) (held n : �
     back : take held′ block″ ≡ holds w all
     back = (λ j. take (few j) (kept j)) ∙ front block′ (holds w all) (omega (arith, holds-room w all, length-take-le n block′ inside))
 
-    pub turned-on : stops w all ≡ false → Going w (bytes + (n - held)) number′ (take held′ block″)
+    pub turned-on : stops w all ≡ false → Going w first (bytes + (n - held)) number′ (take held′ block″)
     turned-on e =
         let c = come block block′ held n stay behind inside in
-        let grown : Going w (bytes + (n - held)) (number + length (partOf w all .done)) (holds w all) =
+        let grown : Going w first (bytes + (n - held)) (number + length (partOf w all .done)) (holds w all) =
         rw (part-size block block′ held n stay behind inside, c) at (going-on g (drop held (take n block′)) (ap (stops w) c ∙ e)) in
         rw (count, back) grown
 
-    turned-last : stops w all ≡ true → Stopped w (bytes + (n - held)) number′ (take held′ block″)
+    turned-last : stops w all ≡ true → Stopped w first (bytes + (n - held)) number′ (take held′ block″)
     turned-last e =
         let c = come block block′ held n stay behind inside in
-        let grown : Stopped w (bytes + (n - held)) (number + length (partOf w all .done)) (holds w all) =
+        let grown : Stopped w first (bytes + (n - held)) (number + length (partOf w all .done)) (holds w all) =
         rw (part-size block block′ held n stay behind inside, c) at (stopped-by g (drop held (take n block′)) (ap (stops w) c ∙ e)) in
         rw (count, back) grown
 
     -- what is said of the part where the run ends behind it
     pub turned-end : {bytes′ number″ held″ : ℕ} {out out′ : List ℕ} {next : ℕ} (stopped : Bool) → stopped ≡ stops w all → bytes′ ≡ bytes + (n - held) → number″ ≡ number′ → held″ ≡ held′
         → next ≤ length out → held′ ≤ length block″ → Puts out 0 (refusalText w (if stopped || ltb 0 held′ then some number′ else none)) out′ next
-        → Ended w bytes′ number″ (take held″ block″) (take next out′)
+        → Ended w first bytes′ number″ (take held″ block″) (take next out′)
     turned-end true e eb en eh room few p = ended-stopped block″ eb en eh room (turned-last (sym e)) p
     turned-end false e eb en eh room few p = ended-going block″ eb en eh room few (turned-on (sym e)) p
 
 -- a read has put nothing behind them
-pub same-held : {w : Way} {bytes number : ℕ} (block block′ : List ℕ) (held : ℕ) → take held block′ ≡ take held block → Going w bytes number (take held block) → Going w bytes number (take held block′)
-same-held {w} {bytes} {number} block block′ held e g = subst (Going w bytes number) (sym e) g
+pub same-held : {w : Way} {first bytes number : ℕ} (block block′ : List ℕ) (held : ℕ) → take held block′ ≡ take held block → Going w first bytes number (take held block) → Going w first bytes number (take held block′)
+same-held {w} {first} {bytes} {number} block block′ held e g = subst (Going w first bytes number) (sym e) g

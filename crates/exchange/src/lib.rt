@@ -1,7 +1,7 @@
 // A listing exchanged for its records, or records for their listing, from standard input to standard output. What comes out is decided by the
 // crate `writer`; here bytes come and go. What comes out of a part is written before the next part is read, so that a slow pipe is answered
 // as it speaks.
-ghost use Prim.Native.Nat.{_≤_};
+ghost use Prim.Native.Nat.{_≤_, _<_, _^_};
 ghost use mathlib.Core.Option.{none, some};
 ghost use mathlib.Core.Path.{_≡_};
 ghost use lib.ListN.{length, take};
@@ -54,14 +54,15 @@ fn close(
     }
 }
 
-// The whole input is turned, part by part, for the program of that name. A failure is said on standard error and ends it.
-pub fn run(name: &[u8], way: Way, block: &mut [u8], out: &mut [u8]) -> Done
+// The whole input is turned, part by part, where its first line or record has number `first`. A failure is said on standard error and ends it.
+fn run_from(name: &[u8], way: Way, first: u64, block: &mut [u8], out: &mut [u8]) -> Done
+    requires { ⌜ first < 2 ^ 61 ⌝ }
     requires { ⌜ length (now block) ≡ blockLength ⌝ }
     requires { ⌜ length (now out) ≡ partRoom blockLength ⌝ }
-    ensures { λ r. ⌜ Ended way (r .bytes) (r .number) (take (r .held) (now (block .exit))) (take (r .next) (now (out .exit))) ⌝ }
+    ensures { λ r. ⌜ Ended way first (r .bytes) (r .number) (take (r .held) (now (block .exit))) (take (r .next) (now (out .exit))) ⌝ }
 {
     let mut bytes: u64 = 0;
-    let mut number: u64 = 0;
+    let mut number = first;
     let mut held: usize = 0;
     let mut reads = streams::READS;
     while 0 < reads {
@@ -82,4 +83,13 @@ pub fn run(name: &[u8], way: Way, block: &mut [u8], out: &mut [u8]) -> Done
         reads -= 1;
     }
     close(way, bytes, number, held, 0 < held, false, out)
+}
+
+// The whole input is turned for the program of that name.
+pub fn run(name: &[u8], way: Way, block: &mut [u8], out: &mut [u8]) -> Done
+    requires { ⌜ length (now block) ≡ blockLength ⌝ }
+    requires { ⌜ length (now out) ≡ partRoom blockLength ⌝ }
+    ensures { λ r. ⌜ Ended way 0 (r .bytes) (r .number) (take (r .held) (now (block .exit))) (take (r .next) (now (out .exit))) ⌝ }
+{
+    run_from(name, way, 0, block, out)
 }
