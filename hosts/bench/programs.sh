@@ -45,7 +45,7 @@ run() {
 # ROW: is its least time within 1.5 times the door's least?
 within() { [ $((took[$1] * 10)) -le $((took[door] * 15)) ]; }
 
-# A run takes a tenth of a second, and what else the machine does can double it for seconds: all are run in turns, three times, and on while one
+# A run takes a tenth of a second, and what else the machine does can double it for seconds: all are run in turns, five times, and on while one
 # is over, up to forty times.
 rows=(trace write list "write, lines of 40 characters" "list, their records")
 for round in {1..40}; do
@@ -57,7 +57,7 @@ for round in {1..40}; do
   run "${rows[4]}" "$bin/list" "$room/widest"
   over=0
   for row in "${rows[@]}"; do within "$row" || over=1; done
-  [ "$round" -lt 3 ] || [ "$over" -ne 0 ] || break
+  [ "$round" -lt 5 ] || [ "$over" -ne 0 ] || break
 done
 
 where=''
