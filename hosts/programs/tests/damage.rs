@@ -66,8 +66,8 @@ fn hold_taken<Kind>(program: Program, taken: Vec<Damaged<Kind>>) {
     hold(program, &input, program.fed(vec![input.clone()]));
 }
 
-/// So many of those that the model refuses. Each needs a run of its own, and all of them would take many minutes: there is one of each
-/// kind, and the others are any.
+/// So many of those that the model refuses, or all. Each needs a run of its own, and all of them take minutes: there is one of each kind, and the
+/// others are any.
 fn chosen<Kind: Copy + Ord>(
     rng: &mut Rng,
     mut refused: Vec<Damaged<Kind>>,
@@ -82,7 +82,7 @@ fn chosen<Kind: Copy + Ord>(
     all.take(number).map(|(_, bytes)| bytes).collect()
 }
 
-/// The damaged one behind up to 1,000 of these good ones, and before one of them half the time.
+/// The damaged one behind up to all but one of these good ones, and before one of them half the time.
 fn among(rng: &mut Rng, good: &[&[u8]], damaged: &[u8]) -> Vec<u8> {
     let before = good[..rng.below(good.len())].concat();
     let after: &[u8] = if rng.one_in(2) { good[0] } else { &[] };
@@ -90,19 +90,30 @@ fn among(rng: &mut Rng, good: &[&[u8]], damaged: &[u8]) -> Vec<u8> {
 }
 
 /// 200 lines give some 310,000 damaged ones, and the model judges every one of them. The program is tried on all of the 30,000 that the
-/// model takes, and on 3,000 of those that it refuses: on every damage at every place, but not on every damage of every line.
-#[test]
-fn a_damaged_character_of_a_line_is_judged_as_by_the_model() {
+/// model takes, and on so many of those that it refuses, each behind some of so many good lines.
+fn damaged_lines_are_judged(number: usize, good: usize) {
     let mut rng = Rng::new(51);
     let lines: Vec<Vec<u8>> = (0..200).map(|_| random_line(&mut rng)).collect();
     let damaged = lines.iter().flat_map(|line| damaged_line(line));
     let (taken, refused) = damaged.partition(|(_, text)| write(text).bad.is_none());
     hold_taken(Write, taken);
-    let text = random_listing(&mut rng, 1_001);
+    let text = random_listing(&mut rng, good);
     let good: Vec<&[u8]> = text.split_inclusive(|&byte| byte == b'\n').collect();
-    let chosen = chosen(&mut rng, refused, 3_000);
+    let chosen = chosen(&mut rng, refused, number);
     let inputs = chosen.iter().map(|line| among(&mut rng, &good, line));
     hold_each(Write, &inputs.collect::<Vec<_>>());
+}
+
+/// Of those that are refused, every damage at every place, but not every damage of every line.
+#[test]
+fn a_damaged_character_of_a_line_is_judged_as_by_the_model() {
+    damaged_lines_are_judged(3_000, 1_001);
+}
+
+#[test]
+#[ignore = "280,000 runs of the program take minutes"]
+fn every_damaged_character_of_every_line_is_judged_as_by_the_model() {
+    damaged_lines_are_judged(usize::MAX, 11);
 }
 
 /// 300 records give 25,200 damaged ones. The program is tried on all that the model takes, and on 300 of the 16,000 that it refuses: on every
