@@ -115,6 +115,11 @@ has() {
   grep -qF -- "$1" "$2" || { echo "no '$1' in:" && cat "$2" && return 1; }
 }
 
+# PATTERN FILE: a line of FILE is like it.
+like() {
+  grep -qE -- "$1" "$2" || { echo "nothing like '$1' in:" && cat "$2" && return 1; }
+}
+
 # TEXT FILE: FILE does not have it.
 lacks() {
   ! grep -qF -- "$1" "$2" || { echo "'$1' in:" && cat "$2" && return 1; }

@@ -7,7 +7,7 @@ progress_is_a_line_for_each_crate() {
   ran trace "$example"
   ended 0 5
   has "about 4 minutes on two free cores the first time, half a minute or more after a change" "$TRIED/err"
-  has "1 of 4 crates proved, the last is rules; 0 s so far" "$TRIED/err"
+  like '1 of 4 crates proved, the last is rules; [0-9]+ s so far$' "$TRIED/err"
   has "4 of 4 crates proved, the last is trace" "$TRIED/err"
   has "454 0 0 1" "$TRIED/out"
   lacks speltmallet "$TRIED/out"
@@ -16,7 +16,7 @@ progress_is_a_line_for_each_crate() {
 progress_is_in_place_on_a_terminal() {
   anew
   PAUSE=1.3 on_terminal "./speltmallet trace '$example' >/dev/null"
-  has $'\rspeltmallet: 0 of 4 crates proved; 1 s so far' "$TRIED/shown"
+  like $'\rspeltmallet: 0 of 4 crates proved; [1-9] s so far' "$TRIED/shown"
   has $'\rspeltmallet: 4 of 4 crates proved' "$TRIED/shown"
   [ "$(wc -l <"$TRIED/shown")" -eq 2 ] || { echo "other than two lines:" && cat "$TRIED/shown" && return 1; }
 }
