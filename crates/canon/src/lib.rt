@@ -7,22 +7,36 @@ ghost use lib.ListN.{length, getD};
 ghost use Rattle.rules.specs.Board.{printer, recordLength, tableLength};
 ghost use Rattle.layout.specs.Bytes.{semsFrom, kernelFrom};
 ghost use Rattle.layout.specs.Canon.{waitCanon, outcomeCanon, headCanon, threadCanon, restZero, semCanon};
-ghost use Rattle.canon.specs.Zero.{recordZero};
+ghost use Rattle.canon.specs.Zero.{longAt, recordZero};
 use rules::KERNEL_FROM;
 use rules::RECORD;
 use rules::SEMAPHORES_FROM;
 use rules::field;
 
-// ZEROS
+// ZEROS: bytes are tested eight at a time
 
-// Is a number 0, and every byte past the first four of the record that starts at byte `base`?
-fn zero_behind(t: &[u8], base: usize, first: u32) -> bool
+fn wide(word: u32) -> u64
+    ensures { λ r. ⌜ (r ≡ word) × (r < 4294967296) ⌝ }
+{
+    word as u64
+}
+
+// Eight bytes as a number, from byte `at` on.
+fn long_at(t: &[u8], at: usize) -> u64
+    requires { ⌜ at + 8 ≤ length (now t) ⌝ }
+    ensures { λ r. ⌜ r ≡ longAt (now (t .entry)) at ⌝ }
+{
+    wide(words::word_at(t, at)) + 4294967296 * wide(words::word_at(t, at + 4))
+}
+
+// Is a number 0, and every byte past the first eight of the record that starts at byte `base`?
+fn zero_behind(t: &[u8], base: usize, first: u64) -> bool
     requires { ⌜ base + recordLength ≤ length (now t) ⌝ }
-    ensures { λ r. ⌜ (r ≡ true) ↔ ((first ≡ 0) × ((k : ℕ) → 4 ≤ k → k < recordLength → getD (now (t .entry)) (base + k) 0 ≡ 0)) ⌝ }
+    ensures { λ r. ⌜ (r ≡ true) ↔ ((first ≡ 0) × ((k : ℕ) → 8 ≤ k → k < recordLength → getD (now (t .entry)) (base + k) 0 ≡ 0)) ⌝ }
 {
     let mut all = first;
-    for q in 1..6usize {
-        all |= words::word_at(t, base + q * 4);
+    for q in 1..3usize {
+        all |= long_at(t, base + q * 8);
     }
     all == 0
 }
@@ -33,7 +47,7 @@ pub fn thread_zero(t: &[u8], i: usize) -> bool
     ensures { λ r. ⌜ r ≡ recordZero (now (t .entry)) (i * recordLength) ⌝ }
 {
     let base = i * RECORD;
-    zero_behind(t, base, words::word_at(t, base))
+    zero_behind(t, base, long_at(t, base))
 }
 
 // Is every byte 0 past the first two of the record that starts at byte `base`?
@@ -41,7 +55,7 @@ fn rest_zero(t: &[u8], base: usize) -> bool
     requires { ⌜ base + recordLength ≤ length (now t) ⌝ }
     ensures { λ r. ⌜ r ≡ restZero (now (t .entry)) base ⌝ }
 {
-    zero_behind(t, base, words::word_at(t, base) / 65536)
+    zero_behind(t, base, long_at(t, base) / 65536)
 }
 
 // THE RECORDS

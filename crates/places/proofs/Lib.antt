@@ -1,4 +1,3 @@
--- Laws of the places that are taken.
-mod Bits
-pub mod Taking
-pub mod Rule
+-- Laws of threads that stand in a ring.
+pub mod Below
+pub mod Ring

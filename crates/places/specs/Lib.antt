@@ -1,2 +1,2 @@
--- Words for the places that are taken.
-pub mod Taken
+-- Words for threads that stand in a ring.
+pub mod Rings

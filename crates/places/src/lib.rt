@@ -1,67 +1,114 @@
-// Which places of lines are taken: a word for each line, and a bit of it for each place.
+// Does each thread stand at a place of its own in its line, with no gap before it? Of each the number of its line is noted, 0 for none, and
+// its place, and each is held against all others. What is noted of the threads is noted once more behind them, as in a ring: so as many
+// entries as there are threads, from any entry on, are those of all threads.
 ghost use mathlib.Core.Path.{_≡_};
-ghost use mathlib.Core.Bool.{true};
+ghost use mathlib.Core.Bool.{true, false};
 ghost use mathlib.Core.Logic.{_↔_};
-ghost use Prim.Native.Nat.{_^_, _<_};
+ghost use Prim.Native.Nat.{ℕ, _+_, _≤_, _<_};
 ghost use lib.Dec.{eqb};
-ghost use lib.ListN.{length, getD};
-ghost use Rattle.rules.specs.Basic.{all};
+ghost use lib.ListN.{length};
+ghost use Rattle.rules.specs.Basic.{bit, allBelow};
 ghost use Rattle.rules.specs.Board.{printer};
-ghost use Rattle.places.specs.Taken.{bitAt, vacant, taking, noGap};
+ghost use Rattle.places.specs.Rings.{half, ringLength, closed, entryIn, entryAt, countBelow, placed, Near};
+use rules::THREADS;
 
-// How many places a line can have: one for each thread.
-const PLACES: u8 = rules::THREADS as u8;
+// The entries of a ring.
+pub const RING: usize = 2 * THREADS;
 
-// The word in which only bit `q` is set.
-fn only(q: u8) -> u16
-    requires { ⌜ q < printer .threads ⌝ }
-    ensures { λ r. ⌜ r ≡ 2 ^ q ⌝ }
+const HALF: usize = THREADS / 2;
+
+// ONE THREAD
+
+fn same(a: u8, b: u8) -> u8
+    ensures { λ r. ⌜ (r ≡ bit (eqb a b)) × (r ≤ 1) ⌝ }
 {
-    1u16 << (q as u16)
+    if a == b { 1 } else { 0 }
 }
 
-// Is bit `q` not set?
-fn is_clear(word: u16, q: u8) -> bool
-    requires { ⌜ q < printer .threads ⌝ }
-    ensures { λ r. ⌜ r ≡ eqb (bitAt word q) 0 ⌝ }
+// How many threads stand in a line? All are asked, from entry `from` on.
+fn length_of(lines: &[u8], from: usize, line: u8) -> u8
+    requires { ⌜ (from ≤ printer .threads) × (length (now lines) ≡ ringLength) ⌝ }
+    ensures { λ r. ⌜ r ≡ countBelow (printer .threads) (λ k. entryIn (now (lines .entry)) line (from + k)) ⌝ }
 {
-    (word >> (q as u16)) % 2 == 0
+    let mut n: u8 = 0;
+    for k in from..from + THREADS {
+        n += same(lines[k], line);
+    }
+    n
 }
 
-// Takes a place of a line, if there is such a place and nobody has it.
-pub fn take(words: &mut [u16], line: usize, place: u8) -> bool
-    requires { ⌜ line < length (now words) ⌝ }
-    ensures answer { λ r. ⌜ r ≡ vacant (getD (now (words .entry)) line 0) place ⌝ }
-    ensures words { λ _. ⌜ now (words .exit) ≡ taking (now (words .entry)) line place ⌝ }
+// 0 if nobody has that place of the line, of half of the threads from entry `from` on.
+fn shared(lines: &[u8], places: &[u8], from: usize, line: u8, place: u8) -> u8
+    requires { ⌜ (from + half ≤ ringLength) × (length (now lines) ≡ ringLength) × (length (now places) ≡ ringLength) ⌝ }
+    ensures { λ r. ⌜ (r ≡ 0) ↔ ((k : ℕ) → k < half → entryAt (now (lines .entry)) (now (places .entry)) line place (from + k) ≡ false) ⌝ }
 {
-    if place < 1 {
-        return false;
+    let mut found: u8 = 0;
+    for k in from..from + HALF {
+        found |= same(lines[k], line) & same(places[k], place);
     }
-    if place > PLACES {
-        return false;
-    }
-    let word = words[line];
-    if !is_clear(word, place - 1) {
-        return false;
-    }
-    words[line] = word + only(place - 1);
-    true
+    found
 }
 
-// 0 if no bit is set above one that is not.
-fn gap(word: u16) -> u16
-    ensures { λ r. ⌜ (r ≡ 0) ↔ (noGap word ≡ true) ⌝ }
+// 0 if a thread is well placed: in no line its place is 0; in a line of that length it is one of 1 to the length, and not shared.
+fn misplaced(line: u8, place: u8, length: u8, shared: u8) -> u8
+    ensures { λ r. ⌜ (r ≡ 0) ↔ ((line ≡ 0 → place ≡ 0) × ((line ≡ 0 → ⊥) → (1 ≤ place) × (place ≤ length) × (shared ≡ 0))) ⌝ }
 {
-    (word / 2 | word) - word
+    if line == 0 {
+        return if place == 0 { 0 } else { 1 };
+    }
+    if shared != 0 {
+        return 1;
+    }
+    if place == 0 {
+        return 1;
+    }
+    if place > length { 1 } else { 0 }
 }
 
-// Is in every line the place before one that is taken taken too?
-pub fn no_gaps(words: &[u16]) -> bool
-    ensures { λ r. ⌜ r ≡ all noGap (now (words .entry)) ⌝ }
+// 0 if thread `j` is well placed. Of two threads that share a place one stands in the half of the ring before the other, so that each
+// need only ask the half before itself.
+fn misplaced_at(lines: &[u8], places: &[u8], j: usize) -> u8
+    requires { ⌜ (j < printer .threads) × (length (now lines) ≡ ringLength) × (length (now places) ≡ ringLength) ⌝ }
+    ensures { λ r. ⌜ (r ≡ 0) ↔ Near (now (lines .entry)) (now (places .entry)) j ⌝ }
 {
-    let mut gaps: u16 = 0;
-    for n in 0..words.len() {
-        gaps |= gap(words[n]);
+    let line = lines[j + THREADS];
+    let place = places[j + THREADS];
+    let taken = shared(lines, places, j + HALF, line, place);
+    let length = length_of(lines, j, line);
+    misplaced(line, place, length, taken)
+}
+
+// ALL THREADS
+
+// The first half of a ring is noted once more behind it.
+fn close(ring: &mut [u8])
+    requires { ⌜ length (now ring) ≡ ringLength ⌝ }
+    ensures { λ _. ⌜ now (ring .exit) ≡ closed (now (ring .entry)) ⌝ }
+{
+    for i in 0..THREADS {
+        ring[THREADS + i] = ring[i];
     }
-    gaps == 0
+}
+
+fn none_misplaced(lines: &[u8], places: &[u8]) -> bool
+    requires { ⌜ (length (now lines) ≡ ringLength) × (length (now places) ≡ ringLength) ⌝ }
+    ensures { λ r. ⌜ (r ≡ true) ↔ ((j : ℕ) → j < printer .threads → Near (now (lines .entry)) (now (places .entry)) j) ⌝ }
+{
+    let mut bad: u8 = 0;
+    for j in 0..THREADS {
+        bad |= misplaced_at(lines, places, j);
+    }
+    bad == 0
+}
+
+// Is every thread well placed?
+pub fn all_placed(lines: &mut [u8], places: &mut [u8]) -> bool
+    requires { ⌜ (length (now lines) ≡ ringLength) × (length (now places) ≡ ringLength) ⌝ }
+    ensures answer { λ r. ⌜ r ≡ allBelow (printer .threads) (placed (now (lines .entry)) (now (places .entry))) ⌝ }
+    ensures lines { λ _. ⌜ now (lines .exit) ≡ closed (now (lines .entry)) ⌝ }
+    ensures places { λ _. ⌜ now (places .exit) ≡ closed (now (places .entry)) ⌝ }
+{
+    close(lines);
+    close(places);
+    none_misplaced(lines, places)
 }

@@ -1,7 +1,7 @@
 -- Laws that the test of a table cites.
 mod Found
 mod Order
-mod OnePlace
+mod Noting
 mod Threads
 mod AllPlaces
 mod Running

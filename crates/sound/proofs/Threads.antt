@@ -6,11 +6,10 @@ use mathlib.Core.List.{List}
 use Prim.Native.Nat.{ℕ, _+_, _*_, _≤_, _<_}
 use native.Mathlib.Nat.{add-zero}
 use native.Mathlib.Omega.{arith}
-use lib.ListN.{length, getD, take, replicate, getD-replicate}
-use Rattle.rules.specs.Basic.{if_then_else_}
+use lib.ListN.{length, getD, replicate, getD-replicate}
 use Rattle.rules.specs.Board.{printer, recordLength, tableLength, topPriority}
 use Rattle.rules.specs.State.{State, On, free, freeSem, at}
-use Rattle.rules.specs.Lines.{nowhere, waitLine, line}
+use Rattle.rules.specs.Lines.{waitLine, line}
 use Rattle.rules.specs.Table.{waitOf, outcomeOf, threadRow, threadOf, decode}
 use Rattle.rules.specs.Test.{freeOk, objectOk, usedOk, notAbove}
 use Rattle.rules.specs.declared.Thread.{Thread}
@@ -28,10 +27,9 @@ use Rattle.layout.proofs.RoundTrip.{on-decode}
 use Rattle.layout.proofs.Said.{thread-said}
 use Rattle.canon.specs.Zero.{recordZero}
 use Rattle.canon.proofs.Zeros.{record-zeros, zeros-record}
-use Rattle.places.specs.Taken.{unshared}
-use Rattle.sound.specs.Tested.{Decides, InTable, AllTaken, Passes}
-use Rattle.sound.proofs.Found.{threads-long}
-use Rattle.sound.proofs.OnePlace.{nowhere-takes}
+use Rattle.lines.specs.Numbers.{lineNumber}
+use Rattle.sound.specs.Tested.{Decides, InTable, Noted, Passes}
+use Rattle.sound.proofs.Noting.{notes-none}
 
 -- A THREAD IN USE
 
@@ -51,14 +49,23 @@ pub used-within : (s : State) → On printer s → (i : ℕ) (th : Thread) → u
 unfolding usedOk
 used-within s on i th e = let x = simp (and-says, leb-says) at e in (x .0 .0 .0 .0 .0 .0, object-within s on i (th .wait) (th .full) (x .0 .0 .0 .1))
 
+-- its line's number fits in a byte
+wait-number : (w : Wait) (suspended : Bool) (p : ℕ) → p ≤ topPriority → InTable w → lineNumber (waitLine w suspended p) < 256
+wait-number (Nothing n) true p h o = omega arith
+wait-number (Nothing n) false p h o = omega arith
+wait-number (Delay n) suspended p h o = omega arith
+wait-number (Receive n) suspended p h o = omega arith
+wait-number (Send to n) suspended p h o = omega arith
+wait-number (Semaphore on n) suspended p h o = omega arith
+
+pub used-number : (s : State) → On printer s → (i : ℕ) (th : Thread) → th .used ≡ true → usedOk s i th ≡ true → lineNumber (line th) < 256
+used-number s on i th u e = let x = used-within s on i th e in rw u (wait-number (th .wait) (th .suspended) (th .priority) (x .0) (x .1))
+
 -- THE WAYS OUT
 
 -- what holds of a thread as it was read holds of the state's
 pub as-read : (f : Thread → Bool) {th now : Thread} {b : Bool} → th ≡ now → f th ≡ b → f now ≡ b
 as-read f p e = ap f (sym p) ∙ e
-
-pub line-read : {th now : Thread} → th ≡ now → th .used ≡ true → line now ≡ waitLine (th .wait) (th .suspended) (th .priority)
-line-read {th} p u = ap line (sym p) ∙ ap (λ b. if b then waitLine (th .wait) (th .suspended) (th .priority) else nowhere) u
 
 -- what fails fails
 pub fails : {t : List ℕ} {P : Type 0} → (P → ⊥) → Decides false t P
@@ -68,16 +75,14 @@ module _ {t : List ℕ} (s : State) (limit i : ℕ) {th : Thread} (this : th ≡
   pub used-fails : usedOk s i th ≡ false → Decides false t (Passes t s limit i)
   used-fails e = fails (λ p. clash (if-says _ _ _ .0 (p .own) .0 (as-read (λ th. th .used) this u)) (as-read (usedOk s i) this e))
 
-  pub used-ends : {r : Bool} → threadCanon t (i * recordLength) ≡ true → usedOk s i th ≡ true → notAbove limit th ≡ true → r ≡ unshared (take i (s .threads)) (at (s .threads) i)
-      → Decides r t (Passes t s limit i)
-  used-ends c o n answer = record {
+  pub used-ends : threadCanon t (i * recordLength) ≡ true → usedOk s i th ≡ true → notAbove limit th ≡ true → Decides true t (Passes t s limit i)
+  used-ends c o n = record {
     passed = λ e. record {
       canon = c;
       own = if-says _ _ _ .1 (λ z. as-read (usedOk s i) this o, λ z. absurd (clash (as-read (λ th. th .used) this u) z));
       rank = as-read (notAbove limit) this n;
-      place = sym answer ∙ e;
     };
-    passes = λ w p. answer ∙ p .place;
+    passes = λ w p. refl;
   }
 
 -- A FREE RECORD
@@ -97,13 +102,11 @@ module _ (t : List ℕ) (s : State) (limit i : ℕ) (long : length t ≡ tableLe
       ap (λ s. at (s .threads) i) (sym e) ∙ thread-said printer t long i inside ∙ zeros-free t (i * recordLength) (record-zeros t (i * recordLength) (sym zero ∙ q))
 
   -- a free thread stands nowhere
-  pub free-taken : {readyWords waiterWords senderWords : List ℕ} → AllTaken readyWords waiterWords senderWords (take i (s .threads))
-      → r ≡ true → AllTaken readyWords waiterWords senderWords (take (i + 1) (s .threads))
-  free-taken old q =
-      let f = zero-free q in nowhere-takes (s .threads) i (omega (arith, threads-long t e)) old (ap (λ th. th .place) f) (ap line f) .taken refl
+  pub free-noted : {numbers places : List ℕ} → Noted numbers places (s .threads) i → r ≡ true → Noted numbers places (s .threads) (i + 1)
+  free-noted old q = let f = zero-free q in notes-none old (ap line f) (ap (λ th. th .place) f)
 
   pub free-ends : {th : Thread} → th ≡ at (s .threads) i → th .used ≡ false → Decides r t (Passes t s limit i)
-  unfolding freeOk unshared threadRow
+  unfolding freeOk threadRow
   free-ends this u =
       let base = i * recordLength in
       record {
@@ -111,7 +114,6 @@ module _ (t : List ℕ) (s : State) (limit i : ℕ) (long : length t ≡ tableLe
           canon = zeros-canon t base (record-zeros t base (sym zero ∙ q));
           own = rw f;
           rank = rw f;
-          place = rw f;
         };
         passes = λ w p.
             let out = as-read (λ th. th .used) this u in

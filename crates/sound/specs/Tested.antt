@@ -2,13 +2,13 @@
 use mathlib.Core.Bool.{Bool, true, not, _&&_, _||_}
 use mathlib.Core.Path.{_≡_}
 use mathlib.Core.List.{List}
-use Prim.Native.Nat.{ℕ, suc, _+_, _*_, _<_}
+use Prim.Native.Nat.{ℕ, _+_, _*_, _≤_, _<_}
 use lib.Dec.{eqb, leb}
-use lib.ListN.{length, take}
-use Rattle.rules.specs.Basic.{if_then_else_, all}
+use lib.ListN.{getD}
+use Rattle.rules.specs.Basic.{if_then_else_}
 use Rattle.rules.specs.Board.{printer, recordLength, topPriority, mostTicks}
 use Rattle.rules.specs.State.{State, at, semAt, waiting, sending}
-use Rattle.rules.specs.Lines.{ready, waiters, senders}
+use Rattle.rules.specs.Lines.{line}
 use Rattle.rules.specs.Test.{isDone, isNoneYet, freeOk, counterOk, objectOk, usedOk, threadOk, semOk, notAbove}
 use Rattle.rules.specs.declared.Thread.{Thread}
 use Rattle.rules.specs.declared.Wait.{Wait}
@@ -17,7 +17,7 @@ use Rattle.rules.specs.declared.Outcome.{Outcome}
 use Rattle.layout.specs.Bytes.{semsFrom}
 use Rattle.layout.specs.Canon.{threadCanon, semCanon}
 use Rattle.layout.specs.Held.{Whole}
-use Rattle.places.specs.Taken.{Taken, noGap, unshared}
+use Rattle.lines.specs.Numbers.{lineNumber}
 
 -- an answer that says whether something holds, of a table that holds the state that it says
 pub record Decides (r : Bool) (t : List ℕ) (P : Type 0) : Type 0 where
@@ -44,38 +44,21 @@ InTable (Receive n) = Unit {0}
 InTable (Send to n) = to < printer .threads
 InTable (Semaphore on n) = on < printer .sems
 
--- PLACES: a word for each ready line, each semaphore's line and each line of senders
+-- PLACES
 
-pub record Lengths (readyWords waiterWords senderWords : List ℕ) : Type 0 where
-  pub inReady : length readyWords ≡ suc topPriority
-  pub inWaiters : length waiterWords ≡ printer .sems
-  pub inSenders : length senderWords ≡ printer .threads
-
--- the words say which places these threads have taken
-pub record AllTaken (readyWords waiterWords senderWords : List ℕ) (ts : List Thread) : Type 0 where
-  pub inReady : Taken ready readyWords ts
-  pub inWaiters : Taken waiters waiterWords ts
-  pub inSenders : Taken senders senderWords ts
-
--- thread i takes its place, if none of the threads before it has it
-pub record TakesPlace (r : Bool) (readyWords waiterWords senderWords : List ℕ) (ts : List Thread) (i : ℕ) : Type 0 where
-  pub answer : r ≡ unshared (take i ts) (at ts i)
-  pub taken : r ≡ true → AllTaken readyWords waiterWords senderWords (take (i + 1) ts)
-
--- in every line the place before one that is taken is taken too
-pub record NoGaps (readyWords waiterWords senderWords : List ℕ) : Type 0 where
-  pub inReady : all noGap readyWords ≡ true
-  pub inWaiters : all noGap waiterWords ≡ true
-  pub inSenders : all noGap senderWords ≡ true
+-- of the threads before i the number of the line and the place are noted, and nothing of the rest
+pub record Noted (numbers places : List ℕ) (ts : List Thread) (i : ℕ) : Type 0 where
+  pub numbered : (k : ℕ) → k < i → getD numbers k 0 ≡ lineNumber (line (at ts k))
+  pub placed : (k : ℕ) → k < i → getD places k 0 ≡ at ts k .place
+  pub rest : (k : ℕ) → i ≤ k → (getD numbers k 0 ≡ 0) × (getD places k 0 ≡ 0)
 
 -- RECORDS
 
--- thread i, after the threads before it
+-- thread i, whoever else stands in its line
 pub record Passes (t : List ℕ) (s : State) (limit i : ℕ) : Type 0 where
   pub canon : threadCanon t (i * recordLength) ≡ true
   pub own : (if at (s .threads) i .used then usedOk s i (at (s .threads) i) else freeOk (at (s .threads) i)) ≡ true
   pub rank : notAbove limit (at (s .threads) i) ≡ true
-  pub place : unshared (take i (s .threads)) (at (s .threads) i) ≡ true
 
 -- every thread
 pub record Threads (t : List ℕ) (s : State) : Type 0 where

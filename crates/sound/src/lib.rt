@@ -1,60 +1,26 @@
-// Is a table sound? Every record is tested once, in place. Who stands at which place of which line is kept in a bit for each place.
+// Is a table sound? Every record is tested once, in place. The line and the place of each thread are noted on the way, and at the end each
+// is held against all others.
 ghost use mathlib.Core.Path.{_≡_};
 ghost use mathlib.Core.Bool.{true};
-ghost use mathlib.Core.List.{List};
-ghost use mathlib.Core.Logic.{_↔_};
-ghost use Prim.Native.Nat.{ℕ, _+_, _≤_, _<_};
-ghost use lib.ListN.{length, take};
+ghost use Prim.Native.Nat.{_+_, _<_};
+ghost use lib.ListN.{length};
 ghost use Rattle.rules.specs.Basic.{allBelow};
-ghost use Rattle.rules.specs.Board.{printer, tableLength, topPriority};
+ghost use Rattle.rules.specs.Board.{printer, tableLength};
 ghost use Rattle.rules.specs.State.{State, at};
-ghost use Rattle.rules.specs.Lines.{line, waitLine};
+ghost use Rattle.rules.specs.Lines.{line};
 ghost use Rattle.rules.specs.Table.{decode};
 ghost use Rattle.rules.specs.Test.{initOk, notAbove, kernelOk, soundTable};
-ghost use Rattle.rules.specs.declared.Thread.{Thread};
-ghost use Rattle.sound.specs.Tested.{Decides, InTable, Lengths, AllTaken, TakesPlace, NoGaps, Passes, Threads, NoneAbove, semTest};
+ghost use Rattle.lines.specs.Numbers.{lineNumber};
+ghost use Rattle.places.specs.Rings.{ringLength};
+ghost use Rattle.sound.specs.Tested.{Decides, Noted, Passes, Threads, NoneAbove, semTest};
 use rules::MOST_COUNT;
-use rules::PRIORITIES;
 use rules::SEMAPHORES;
 use rules::TABLE;
 use rules::THREADS;
 use rules::TOP_PRIORITY;
 use rules::Thread;
-use rules::Wait;
 
 mod used;
-
-// PLACES
-
-// Takes the place that a thread in use has in the line that its wait names, if nobody has it.
-fn take_place(
-    ready: &mut [u16; PRIORITIES],
-    waiters: &mut [u16; SEMAPHORES],
-    senders: &mut [u16; THREADS],
-    w: Wait,
-    suspended: bool,
-    priority: u8,
-    place: u8,
-) -> bool
-    requires { ⌜ (priority ≤ topPriority) × InTable w ⌝ }
-    ensures { λ r. ⌜ ((ts : List Thread) (i : ℕ) → i < length ts → line (at ts i) ≡ waitLine w suspended priority → at ts i .place ≡ place
-        → AllTaken (now (ready .entry)) (now (waiters .entry)) (now (senders .entry)) (take i ts)
-        → TakesPlace r (now (ready .exit)) (now (waiters .exit)) (now (senders .exit)) ts i) ⌝ }
-{
-    match w {
-        Wait::Nothing { counter: _ } => {
-            if suspended {
-                place == 0
-            } else {
-                places::take(ready, priority as usize, place)
-            }
-        }
-        Wait::Delay { counter: _ } => place == 0,
-        Wait::Receive { counter: _ } => place == 0,
-        Wait::Send { to, counter: _ } => places::take(senders, to as usize, place),
-        Wait::Semaphore { on, counter: _ } => places::take(waiters, on as usize, place),
-    }
-}
 
 // Is a thread's priority at most `limit`, if it is ready?
 fn not_above(th: Thread, limit: u8) -> bool
@@ -68,22 +34,22 @@ fn not_above(th: Thread, limit: u8) -> bool
 
 // ONE THREAD
 
-fn thread_ok(
-    t: &[u8],
-    i: usize,
-    limit: u8,
-    ready: &mut [u16; PRIORITIES],
-    waiters: &mut [u16; SEMAPHORES],
-    senders: &mut [u16; THREADS],
-) -> bool
-    requires { ⌜ (i < printer .threads) × (length (now t) ≡ tableLength printer) ⌝ }
-    ensures { λ r. ⌜ ((s : State) → decode printer (now (t .entry)) ≡ s
-        → AllTaken (now (ready .entry)) (now (waiters .entry)) (now (senders .entry)) (take i (s .threads))
+// The number of a thread's line, in a byte.
+fn number_of(th: Thread) -> u8
+    requires { ⌜ lineNumber (line th) < 256 ⌝ }
+    ensures { λ r. ⌜ r ≡ lineNumber (line th) ⌝ }
+{
+    lines::line_of(th) as u8
+}
+
+// Is thread `i` sound, whoever else stands in its line? If it is, its line and its place are noted.
+fn thread_ok(t: &[u8], i: usize, limit: u8, numbers: &mut [u8], places: &mut [u8]) -> bool
+    requires { ⌜ (i < printer .threads) × (length (now t) ≡ tableLength printer) × (length (now numbers) ≡ ringLength) × (length (now places) ≡ ringLength) ⌝ }
+    ensures { λ r. ⌜ ((s : State) → decode printer (now (t .entry)) ≡ s → Noted (now (numbers .entry)) (now (places .entry)) (s .threads) i
         → Decides r (now (t .entry)) (Passes (now (t .entry)) s limit i)
-        × (r ≡ true → AllTaken (now (ready .exit)) (now (waiters .exit)) (now (senders .exit)) (take (i + 1) (s .threads)))) ⌝ }
+        × (r ≡ true → Noted (now (numbers .exit)) (now (places .exit)) (s .threads) (i + 1))) ⌝ }
 {
     let th = records::load_thread(t, i);
-    let w = th.wait;
     if !th.used {
         return canon::thread_zero(t, i);
     }
@@ -96,47 +62,26 @@ fn thread_ok(
     if !not_above(th, limit) {
         return false;
     }
-    take_place(
-        ready,
-        waiters,
-        senders,
-        w,
-        th.suspended,
-        th.priority,
-        th.place,
-    )
+    numbers[i] = number_of(th);
+    places[i] = th.place;
+    true
 }
 
 // ALL THREADS
-
-// Is in every line the place before one that is taken taken too?
-fn no_gaps(ready: &[u16; PRIORITIES], waiters: &[u16; SEMAPHORES], senders: &[u16; THREADS]) -> bool
-    ensures lengths { λ r. ⌜ (r ≡ true → Lengths (now (ready .entry)) (now (waiters .entry)) (now (senders .entry))) ⌝ }
-    ensures gaps { λ r. ⌜ (r ≡ true) ↔ NoGaps (now (ready .entry)) (now (waiters .entry)) (now (senders .entry)) ⌝ }
-{
-    if !places::no_gaps(ready) {
-        return false;
-    }
-    if !places::no_gaps(waiters) {
-        return false;
-    }
-    places::no_gaps(senders)
-}
 
 // Are all threads sound, and is no ready thread's priority above `limit`?
 fn threads_ok(t: &[u8], limit: u8) -> bool
     requires { ⌜ length (now t) ≡ tableLength printer ⌝ }
     ensures { λ r. ⌜ ((s : State) → decode printer (now (t .entry)) ≡ s → Decides r (now (t .entry)) (Threads (now (t .entry)) s × NoneAbove limit s)) ⌝ }
 {
-    let mut ready = [0u16; PRIORITIES];
-    let mut waiters = [0u16; SEMAPHORES];
-    let mut senders = [0u16; THREADS];
+    let mut numbers = [0u8; places::RING];
+    let mut places = [0u8; places::RING];
     for i in 0..THREADS {
-        if !thread_ok(t, i, limit, &mut ready, &mut waiters, &mut senders) {
+        if !thread_ok(t, i, limit, &mut numbers, &mut places) {
             return false;
         }
     }
-    no_gaps(&ready, &waiters, &senders)
+    places::all_placed(&mut numbers, &mut places)
 }
 
 // SEMAPHORES, AND WHO RUNS

@@ -60,8 +60,7 @@ each = record {
   canon-thread-canon = λ κs a z z′ ws ws′ h p q. (p ∙ sym q, refl);
   canon-thread-zero = λ κs a z z′ ws ws′ h p q. (p ∙ sym q, refl);
   -- places
-  places-no-gaps = λ κs a z z′ ws ws′ h p q. (p ∙ sym q, refl);
-  places-take = λ κs a z z′ ws ws′ h p q. (p .0 ∙ sym (q .0), first (p .1 ∙ sym (q .1)));
+  places-all-placed = λ κs a z z′ ws ws′ h p q. (p .0 ∙ sym (q .0), λ j. ((p .1 .0 ∙ sym (q .1 .0)) j, first (p .1 .1 ∙ sym (q .1 .1)) j));
   -- sound
   sound-sound = λ κs a z z′ ws ws′ h p q. (p ∙ sym q, refl);
   -- waiting

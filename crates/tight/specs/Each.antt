@@ -68,8 +68,7 @@ pub record Each : Type 1 where
   pub canon-thread-canon : Determines canon.thread_canon.Kinds.ps canon.thread_canon.Kinds.r canon.thread_canon.Reads.Pre canon.thread_canon.Reads.Post
   pub canon-thread-zero : Determines canon.thread_zero.Kinds.ps canon.thread_zero.Kinds.r canon.thread_zero.Reads.Pre canon.thread_zero.Reads.Post
   -- places
-  pub places-no-gaps : Determines places.no_gaps.Kinds.ps places.no_gaps.Kinds.r places.no_gaps.Reads.Pre places.no_gaps.Reads.Post
-  pub places-take : Determines places.take.Kinds.ps places.take.Kinds.r places.take.Reads.Pre places.take.Reads.Post
+  pub places-all-placed : Determines places.all_placed.Kinds.ps places.all_placed.Kinds.r places.all_placed.Reads.Pre places.all_placed.Reads.Post
   -- sound
   pub sound-sound : Determines sound.sound.Kinds.ps sound.sound.Kinds.r sound.sound.Reads.Pre sound.sound.Reads.Post
   -- waiting

@@ -1,14 +1,16 @@
--- `sound::thread_ok` meets its contract: each test that fails decides, and else the place that is taken does; a free record is all zero. Assumes nothing.
+-- `sound::thread_ok` meets its contract: each test that fails decides, and else the thread is noted; a free record is all zero. Assumes nothing.
 use mathlib.Core.Path.{refl, ap, sym, _∙_}
 use native.Mathlib.Omega.{arith}
 use borrow.Author.Tests.{not-true, not-false}
 use borrow.Author.Needs.{needs}
 use Rattle.rules.specs.Board.{printer}
+use Rattle.rules.specs.Lines.{line}
 use Rattle.rules.specs.Test.{notAbove}
 use Rattle.laws.proofs.Split.{clash}
 use Rattle.layout.proofs.RoundTrip.{on-decode}
-use Rattle.sound.proofs.Found.{threads-long}
-use Rattle.sound.proofs.Threads.{used-within, as-read, line-read, fails, used-fails, used-ends, free-taken, free-ends}
+use Rattle.lines.specs.Numbers.{lineNumber}
+use Rattle.sound.proofs.Noting.{notes}
+use Rattle.sound.proofs.Threads.{used-number, as-read, fails, used-fails, used-ends, free-noted, free-ends}
 use Rattle.sound.proofs.thread_ok.Statement.{statement}
 use Rattle.sound.proofs.thread_ok.Tie as tie
 
@@ -20,8 +22,8 @@ thread-zero-requires c κs = search needs
 
 returns : tie.Need-returns
 returns c s e old = (
-  free-ends _ s _ (c .before .before .before .before .before .args .i) (c .before .before .before .before .before .pre .1) e (c .before .before .before .before .before .pre .0) (c .thread-zero .ensures) (c .before .before .before .load-thread .ensures s e) (not-true _ (c .before .if1 .taken)),
-  free-taken _ s (c .before .before .before .before .before .args .limit) (c .before .before .before .before .before .args .i) (c .before .before .before .before .before .pre .1) e (c .before .before .before .before .before .pre .0) (c .thread-zero .ensures) old,
+  free-ends _ s _ (c .before .before .before .before .before .before .before .args .i) (c .before .before .before .before .before .before .before .pre .1) e (c .before .before .before .before .before .before .before .pre .0) (c .thread-zero .ensures) (c .before .before .before .load-thread .ensures s e) (not-true _ (c .before .if1 .taken)),
+  free-noted _ s (c .before .before .before .before .before .before .before .args .limit) (c .before .before .before .before .before .before .before .args .i) (c .before .before .before .before .before .before .before .pre .1) e (c .before .before .before .before .before .before .before .pre .0) (c .thread-zero .ensures) old,
 )
 
 thread-canon-requires : tie.Need-thread-canon-requires
@@ -40,26 +42,28 @@ not-above-requires : tie.Need-not-above-requires
 not-above-requires c κs = search needs
 
 returns-4 : tie.Need-returns-4
-returns-4 c s e old =
-    let start = c .before .before .before .before .before .before .before .before .before .before in
-    let load-thread = c .before .before .before .before .before .before .before .before .load-thread in
-    (fails (λ p. clash (p .rank) (as-read (notAbove (start .args .limit)) (load-thread .ensures s e) (sym (c .before .not-above .ensures) ∙ not-true _ (c .if4 .taken)))), λ z. absurd (clash z refl))
+returns-4 c s e old = (fails (λ p. clash (p .rank) (as-read (notAbove (c .before .before .before .before .before .before .before .before .before .before .before .before .args .limit)) (c .before .before .before .before .before .before .before .before .load-thread .ensures s e) (sym (c .before .not-above .ensures) ∙ not-true _ (c .if4 .taken)))), λ z. absurd (clash z refl))
 
-take-place-requires : tie.Need-take-place-requires
-take-place-requires c κs = used-within _ (on-decode printer _) _ _ (sym (c .before .before .before .before .before .before .used-ok .ensures _ refl) ∙ not-false _ (c .before .before .before .before .before .if3 .left))
+number-of-requires : tie.Need-number-of-requires
+number-of-requires c κs = used-number _ (on-decode printer _) _ _ (not-false _ (c .before .before .before .before .before .before .if1 .left)) (sym (c .before .before .before .used-ok .ensures _ refl) ∙ not-false _ (c .before .before .if3 .left))
+
+slice-write-numbers : tie.Need-slice-write-numbers
+slice-write-numbers c = search needs
+
+slice-write-places : tie.Need-slice-write-places
+slice-write-places c = search needs
+
+same-length : tie.Need-same-length
+same-length c = search needs
+
+same-length-2 : tie.Need-same-length-2
+same-length-2 c = search needs
 
 returns-5 : tie.Need-returns-5
-returns-5 c s e old =
-    let start = c .before .before .before .before .before .before .before .before .before .before .before .before .before .before in
-    let load-thread = c .before .before .before .before .before .before .before .before .before .before .before .before .load-thread in
-    let if1 = c .before .before .before .before .before .before .before .before .before .before .if1 in
-    let thread-canon = c .before .before .before .before .before .before .before .before .before .thread-canon in
-    let if2 = c .before .before .before .before .before .before .before .before .if2 in
-    let takes = c .take-place .ensures (s .threads) (start .args .i) (omega (arith, threads-long _ e)) (line-read (load-thread .ensures s e) (not-false _ (if1 .left))) (ap (λ th. th .place) (sym (load-thread .ensures s e))) old in (
-      used-ends s _ _ (load-thread .ensures s e) (not-false _ (if1 .left)) (sym (thread-canon .ensures) ∙ not-false _ (if2 .left)) (sym (c .before .before .before .before .before .before .before .used-ok .ensures s e) ∙ not-false _ (c .before .before .before .before .before .before .if3 .left))
-          (sym (c .before .before .before .before .before .not-above .ensures) ∙ not-false _ (c .before .before .before .before .if4 .left)) (takes .answer),
-      takes .taken,
-    )
+returns-5 c s e old = (
+  used-ends s _ _ (c .before .before .before .before .before .before .before .before .before .load-thread .ensures s e) (not-false _ (c .before .before .before .before .before .before .before .if1 .left)) (sym (c .before .before .before .before .before .before .thread-canon .ensures) ∙ not-false _ (c .before .before .before .before .before .if2 .left)) (sym (c .before .before .before .before .used-ok .ensures s e) ∙ not-false _ (c .before .before .before .if3 .left)) (sym (c .before .before .not-above .ensures) ∙ not-false _ (c .before .if4 .left)),
+  λ z. notes old (omega (arith, c .before .before .before .before .before .before .before .before .before .before .before .before .before .pre .2)) (omega (arith, c .before .before .before .before .before .before .before .before .before .before .before .before .before .pre .3)) (c .number-of .ensures ∙ ap (λ th. lineNumber (line th)) (c .before .before .before .before .before .before .before .before .before .load-thread .ensures s e)) (ap (λ th. th .place) (c .before .before .before .before .before .before .before .before .before .load-thread .ensures s e)),
+)
 
 pub thread-ok-spec : {M : Type 1} → statement M
 thread-ok-spec =
@@ -74,5 +78,9 @@ thread-ok-spec =
     returns-3
     not-above-requires
     returns-4
-    take-place-requires
+    number-of-requires
+    slice-write-numbers
+    slice-write-places
+    same-length
+    same-length-2
     returns-5)
