@@ -57,6 +57,16 @@ fn threads_in_use(table: &[u8; TABLE]) -> usize {
     (0..THREADS).filter(used).count()
 }
 
+/// All calls of one operation that some groups have.
+pub fn of_operation(groups: &[Group], operation: u8) -> Group {
+    let cases = groups.iter().flat_map(|group| &group.cases);
+    let asked = cases.filter(|case| case.record[0] == operation);
+    Group {
+        name: OPERATIONS[usize::from(operation)].to_string(),
+        cases: asked.copied().collect(),
+    }
+}
+
 /// For each of the operations `each` accepted requests on random sound tables with so many threads
 /// in use after it.
 pub fn accepted(

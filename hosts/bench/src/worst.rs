@@ -51,6 +51,17 @@ fn rank_of_16() -> [u8; TABLE] {
     after(table, record(op::YIELD, 0, 0, 0, 0))
 }
 
+/// Thread 15 waits to receive, and the 15 others are ready in the rank that it comes from.
+fn receiver() -> [u8; TABLE] {
+    let mut table = after(fresh(), record(op::CREATE, 15, 0, 5, 0));
+    table = after(table, record(op::YIELD, 0, 0, 0, 0));
+    table = after(table, record(op::RECEIVE, 0, 0, FOREVER, 0));
+    for i in 1..15 {
+        table = after(table, record(op::CREATE, i, 0, 5, 0));
+    }
+    table
+}
+
 /// Each is a group of one call.
 pub fn worst() -> Vec<Group> {
     let delays = all_wait(fresh(), 1, record(op::DELAY, 0, 0, 1, 0));
@@ -105,6 +116,16 @@ pub fn worst() -> Vec<Group> {
             "Post serves 15 waiters",
             waiters(1, FOREVER),
             record(op::POST, 0, 0, 99, 0),
+        ),
+        (
+            "Send from interrupt into a rank of 15",
+            receiver(),
+            record(op::SEND_FROM_INTERRUPT, 15, 0, 0, 9),
+        ),
+        (
+            "Post from interrupt serves 15 waiters",
+            waiters(1, FOREVER),
+            record(op::POST_FROM_INTERRUPT, 0, 0, 99, 0),
         ),
         ("Tick rotates a rank of 16", rank_of_16(), tick),
         ("Tick ends 15 delays", delays, tick),
