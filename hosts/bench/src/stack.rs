@@ -91,8 +91,13 @@ fn print_interrupt(groups: &[Group]) {
     println!("### The cutter's interrupt\n");
     println!("The most that any of the calls above wrote to, by what an interrupt can ask for.\n");
     println!("| Call | bytes | left of {INTERRUPT} |\n|---|---:|---:|");
-    for (group, Pair { door, .. }) in asked.iter().zip(stack(&asked)) {
-        println!("| {} | {door} | {} |", group.name, INTERRUPT - door);
+    let rows = FROM_INTERRUPT.iter().zip(&asked).zip(stack(&asked));
+    for ((operation, group), Pair { door, .. }) in rows {
+        let left = INTERRUPT - door;
+        println!(
+            "| {}, operation {operation} | {door} | {left} |",
+            group.name
+        );
     }
     println!();
 }
