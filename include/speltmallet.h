@@ -24,10 +24,11 @@
 extern "C" {
 #endif
 
-/* The project's version; the file VERSION has it too. From 0.7.0 on a blocked Send or Pend has a value: how many are ahead. */
-#define SPELTMALLET_VERSION "0.7.0"
+/* The project's version; the file VERSION has it too. From 0.7.0 on a blocked Send or Pend has a value: how many are ahead. From
+ * 0.8.0 on units that Post hands to waiters don't count towards its limit. */
+#define SPELTMALLET_VERSION "0.8.0"
 #define SPELTMALLET_VERSION_MAJOR 0
-#define SPELTMALLET_VERSION_MINOR 7
+#define SPELTMALLET_VERSION_MINOR 8
 #define SPELTMALLET_VERSION_PATCH 0
 
 /*
@@ -167,7 +168,8 @@ int32_t speltmallet_door(uint8_t *table, size_t table_len, const uint8_t *reques
 #define SPELTMALLET_OP_ABORT 14
 
 /* Post: object (semaphore), number (units).
- * -6 semaphore above 7, or free; -5 number is 0, or count plus units is above 99 (units that go to waiters count too). */
+ * -6 semaphore above 7, or free; -5 number is 0, or the count plus the units left over after the waiters are served is above 99.
+ * Each waiter takes one, a suspended one too, so 1 to (99 - count + waiters) units are accepted. A refused Post serves nobody. */
 #define SPELTMALLET_OP_POST 15
 
 /* Post from interrupt: object (semaphore), number (units).

@@ -1,4 +1,5 @@
 pub mod Refused
+pub mod Narrowed
 pub mod Malformed
 pub mod Exactly
 pub mod Ahead

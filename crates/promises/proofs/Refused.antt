@@ -3,7 +3,7 @@
 use mathlib.Core.Bool.{Bool, true, false, not, _&&_, _||_}
 use mathlib.Core.Path.{_≡_, refl}
 use mathlib.Core.Option.{Option, none, some}
-use Prim.Native.Nat.{ℕ}
+use Prim.Native.Nat.{ℕ, _-_}
 use native.Mathlib.Omega.{arith}
 use native.Mathlib.Decide.{ℕ-discrete}
 use lib.Dec.{eqb, leb, ltb}
@@ -11,20 +11,24 @@ use borrow.Author.Tests.{leb-true, ne-eqb, lt-ltb}
 use lib.ListN.{length, List·getD-eq-default}
 use Rattle.rules.specs.Basic.{if_then_else_}
 use Rattle.rules.specs.State.{State, free, freeSem, at, semAt}
+use Rattle.rules.specs.Lines.{waiters, same, waitLine, inLine}
 use Rattle.rules.specs.Waiting.{Step, refuse, accept, block, mayNotWait, neverWait, mustWait}
 use Rattle.rules.specs.Threads.{bound, doYield, doCreate, doDelete, doSet, doSuspend, doResume, doDelay, breakOff, doCancel}
 use Rattle.rules.specs.Mail.{doSend, doSendFromInterrupt, doReceive}
-use Rattle.rules.specs.Semaphores.{noSem, tooMany, posted, doMake, doDrop, doPend, doAbort, doPost, doPostFromInterrupt}
+use Rattle.rules.specs.Semaphores.{noSem, servedBy, tooMany, posted, doMake, doDrop, doPend, doAbort, doPost, doPostFromInterrupt}
 use Rattle.rules.specs.Time.{doLock, doUnlock, doTick, outcomeAnswer, doOutcome}
 use Rattle.rules.specs.Steps.{step}
+use Rattle.rules.specs.declared.Thread.{Thread}
 use Rattle.rules.specs.declared.Wait.{Wait}
+use Rattle.rules.specs.declared.Wait.the-variants.{Nothing, Delay, Receive, Send, Semaphore}
 use Rattle.rules.specs.declared.Outcome as Outcome
 use Rattle.rules.specs.declared.Refusal.{Refusal}
 use Rattle.rules.specs.declared.Refusal.the-variants.{BadOperation, BadSemaphore}
 use Rattle.rules.specs.declared.Request.{Request}
 use Rattle.rules.specs.declared.Request.the-variants as Ask
 use Rattle.laws.proofs.Split.{is, isnt, test, if-case}
-use Rattle.promises.specs.Refusals.{firstGiven, refusal, refusalIn, locked, cannotWait}
+use Rattle.laws.proofs.Counts.{count-as}
+use Rattle.promises.specs.Refusals.{firstGiven, refusal, refusalIn, locked, cannotWait, onSemaphore, waitsOn, unitsOver, minus5}
 
 -- a step answers one refusal or none, and leaves the state where it refuses
 pub record Says (s : State) (why : Option Refusal) (r : Step) : Type 0 where
@@ -93,6 +97,27 @@ cannot s n = go (eqb n 0) (eqb (s .running) 0)
 locked-or : (s : State) (b : Bool) → (locked s || b) ≡ (ltb 0 (s .lock) || b)
 locked-or s b = rw (above-zero (s .lock))
 
+-- who waits on semaphore k stands in its line
+on-line : (k : ℕ) (w : Wait) (suspended : Bool) (p : ℕ) → onSemaphore k w ≡ same (waitLine w suspended p) (waiters k)
+on-line k (Nothing c) true p = refl
+on-line k (Nothing c) false p = refl
+on-line k (Delay c) suspended p = refl
+on-line k (Receive c) suspended p = refl
+on-line k (Send to c) suspended p = refl
+on-line k (Semaphore on c) suspended p = refl
+
+stands : (k : ℕ) (t : Thread) → waitsOn k t ≡ inLine (waiters k) t
+stands k t = elim (test (t .used)) [
+  | is e ↦ rw (e, on-line k (t .wait) (t .suspended) (t .priority))
+  | isnt e ↦ rw e
+]
+
+over-is : (s : State) (k n : ℕ) → unitsOver s k n ≡ n - servedBy s k n
+over-is s k n = omega (arith, count-as (waitsOn k) (inLine (waiters k)) free (s .threads) (λ i. stands k (at (s .threads) i)))
+
+too-many-is : (s : State) (k n : ℕ) → minus5 s (Ask.Post k n) ≡ tooMany s k n
+too-many-is s k n = rw (over-is s k n)
+
 -- a call that must wait, in one of two branches
 must : (s : State) (n : ℕ) (w : ℕ → Wait) (x : ℕ) → Says s (if cannotWait s n then some BadOperation else none) (mustWait s n w x)
 unfolding mustWait block
@@ -125,7 +150,7 @@ posts : (s : State) (k n : ℕ) → Says s (refusal s (Ask.PostFromInterrupt k n
 unfolding refusal firstGiven doPostFromInterrupt doPost
 posts s k n = elim (test (noSem s k)) [
   | is e ↦ rw (sem-free s k, e) (refuses s BadSemaphore)
-  | isnt e ↦ rw (sem-free s k, e, above-zero (s .lock)) (last (ltb 0 (s .lock)) (tooMany s k n))
+  | isnt e ↦ rw (sem-free s k, e, over-is s k n, above-zero (s .lock)) (last (ltb 0 (s .lock)) (tooMany s k n))
 ]
   where
     last : (a b : Bool) → Says s (if b || a then some BadOperation else none) (if a then refuse s BadOperation else (if b then refuse s BadOperation else accept (posted s k n) 0))
@@ -151,7 +176,7 @@ says s (Ask.Make k n) = search (rung, accepts) depth 8
 says s (Ask.Drop k) = search (rung, accepts, sem-free) depth 8
 says s (Ask.Pend k n) = search (rung, must-unless, sem-free, zero-is) depth 8
 says s (Ask.Abort i) = search (rung, accepts, thread-free) depth 8
-says s (Ask.Post k n) = search (rung, accepts, sem-free) depth 8
+says s (Ask.Post k n) = search (rung, accepts, sem-free, too-many-is) depth 8
 says s (Ask.PostFromInterrupt k n) = posts s k n
 says s Ask.Lock = search (rung, accepts) depth 8
 says s Ask.Unlock = search (rung, accepts) depth 8

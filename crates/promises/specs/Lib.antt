@@ -1,5 +1,6 @@
 -- What is promised, for an auditor to read with document 01 beside it.
 pub mod Refusals
+pub mod Narrowed
 pub mod Malformed
 pub mod Ahead
 pub mod Demand1

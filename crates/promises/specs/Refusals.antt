@@ -1,12 +1,16 @@
--- Document 01's two tables of refusals, written down apart from the operations, so that they can disagree with them.
+-- Document 01's two tables of refusals as the orders change them, written down apart from the operations, so that they can disagree with
+-- them.
 use mathlib.Core.Bool.{Bool, false, not, _&&_, _||_}
 use mathlib.Core.List.{List, [], _∷_}
 use mathlib.Core.Option.{Option, none, some}
-use Prim.Native.Nat.{ℕ, _+_}
+use Prim.Native.Nat.{ℕ, _+_, _-_}
 use lib.Dec.{eqb, leb, ltb}
 use lib.ListN.{length}
-use Rattle.rules.specs.Basic.{if_then_else_}
+use Rattle.rules.specs.Basic.{if_then_else_, count}
 use Rattle.rules.specs.State.{State, at, semAt, caller, delaying, pending}
+use Rattle.rules.specs.declared.Thread.{Thread}
+use Rattle.rules.specs.declared.Wait.{Wait}
+use Rattle.rules.specs.declared.Wait.the-variants.{Nothing, Delay, Receive, Send, Semaphore}
 use Rattle.rules.specs.declared.Refusal.{Refusal}
 use Rattle.rules.specs.declared.Refusal.the-variants.{BadThread, BadPriority, BadTicks, BadState, BadOperation, BadSemaphore, BadTable, BadRecord}
 use Rattle.rules.specs.declared.Answer.{Answer}
@@ -124,6 +128,22 @@ locked s = not (eqb (s .lock) 0)
 abbrev pub cannotWait : State → ℕ → Bool
 cannotWait s n = eqb n 0 || eqb (s .running) 0 || locked s
 
+-- "wait kind [..] 4 semaphore", and its object is k
+abbrev pub onSemaphore : ℕ → Wait → Bool
+onSemaphore k (Nothing c) = false
+onSemaphore k (Delay c) = false
+onSemaphore k (Receive c) = false
+onSemaphore k (Send to c) = false
+onSemaphore k (Semaphore on c) = eqb on k
+
+-- a thread that waits on semaphore k, suspended or not
+abbrev pub waitsOn : ℕ → Thread → Bool
+waitsOn k t = t .used && onSemaphore k (t .wait)
+
+-- order 4: "the units left over after the waiters are served": each waiter takes one, and 0 are left where there are as many waiters or more
+abbrev pub unitsOver : State → ℕ → ℕ → ℕ
+unitsOver s k n = n - count (waitsOn k) (s .threads)
+
 -- "−5: as said under each operation below"
 abbrev pub minus5 : State → Request → Bool
 minus5 s Ask.Yield = false
@@ -150,9 +170,10 @@ minus5 s (Ask.Drop k) = false
 -- "With count above 0 takes one [..]; else must wait."
 minus5 s (Ask.Pend k n) = eqb (semAt (s .sems) k .count) 0 && cannotWait s n
 minus5 s (Ask.Abort i) = false
--- "−5 if number is 0 or count + number is above 99; from an interrupt also under lock."
-minus5 s (Ask.Post k n) = eqb n 0 || ltb 99 (semAt (s .sems) k .count + n)
-minus5 s (Ask.PostFromInterrupt k n) = eqb n 0 || ltb 99 (semAt (s .sems) k .count + n) || locked s
+-- order 4: "−5 for number 0 or when the count plus the units left over after the waiters are served is above 99"; "from an interrupt
+-- also under lock."
+minus5 s (Ask.Post k n) = eqb n 0 || ltb 99 (semAt (s .sems) k .count + unitsOver s k n)
+minus5 s (Ask.PostFromInterrupt k n) = eqb n 0 || ltb 99 (semAt (s .sems) k .count + unitsOver s k n) || locked s
 -- "Lock −5 at 255. Unlock −5 at 0."
 minus5 s Ask.Lock = leb 255 (s .lock)
 minus5 s Ask.Unlock = eqb (s .lock) 0

@@ -48,15 +48,22 @@ doPend s k n =
 unfoldable pub doAbort : State → ℕ → Step
 doAbort s i = breakOff pending s i
 
--- "Post: −5 if number is 0 or count + number is above 99."
+-- "Units go to waiters in line order": so many of n units do, suspended waiters among them, which stay in the line
+abbrev pub servedBy : State → ℕ → ℕ → ℕ
+servedBy s k n = min n (lineLength (waiters k) (s .threads))
+
+-- order 4: "the count plus the units left over after the waiters are served"
+abbrev pub countAfter : State → ℕ → ℕ → ℕ
+countAfter s k n = countOf s k + (n - servedBy s k n)
+
+-- order 4: "Post, from threads and interrupts, answers −5 for number 0 or when the count plus the units left over after the waiters
+-- are served is above 99."
 abbrev pub tooMany : State → ℕ → ℕ → Bool
-tooMany s k n = eqb n 0 || ltb mostCount (countOf s k + n)
+tooMany s k n = eqb n 0 || ltb mostCount (countAfter s k n)
 
 -- "Units go to waiters in line order, priority notwithstanding; each such wait ends with 0; the rest is added to the count."
 unfoldable pub posted : State → ℕ → ℕ → State
-posted s k n =
-    let served = min n (lineLength (waiters k) (s .threads)) in
-    withCount k (countOf s k + (n - served)) (withThreads (serve served (waiters k) Done (s .threads)) s)
+posted s k n = withCount k (countAfter s k n) (withThreads (serve (servedBy s k n) (waiters k) Done (s .threads)) s)
 
 -- "Post −6, −5"
 unfoldable pub doPost : State → ℕ → ℕ → Step

@@ -22,5 +22,5 @@ sem-there b t k {x} is e = elim (decLt k (b .sems)) [
   | no h ↦ absurd (clash (not-false (x .used) e) (ap (λ y. y .used) (is (decode b t) refl ∙ List·getD-eq-default (decode b t .sems) freeSem (omega (arith, on-decode b t .sems)))))
 ]
 
-pub sum-fits : (count n : ℕ) {r : Bool} → r ≡ (eqb n 0 || ltb mostCount (count + n)) → r ≡ false → count + n ≤ mostCount
-sum-fits count n p e = ltb-false mostCount (count + n) (or-false (eqb n 0) (ltb mostCount (count + n)) (sym p ∙ e) .1)
+pub sum-fits : (count n over : ℕ) {r : Bool} → r ≡ (eqb n 0 || ltb mostCount (count + over)) → r ≡ false → count + over ≤ mostCount
+sum-fits count n over p e = ltb-false mostCount (count + over) (or-false (eqb n 0) (ltb mostCount (count + over)) (sym p ∙ e) .1)

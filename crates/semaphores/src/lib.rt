@@ -125,24 +125,24 @@ pub fn abort(t: &mut [u8], i: u8) -> Answer
 
 // POST
 
-// "Number is 0 or count + number is above 99."
-fn too_many(count: u8, n: u32) -> bool
-    ensures { λ r. ⌜ r ≡ (eqb n 0 || ltb mostCount (count + n)) ⌝ }
+// Number 0, or more than 99 with the units left over of it.
+fn too_many(count: u8, n: u32, over: u32) -> bool
+    ensures { λ r. ⌜ r ≡ (eqb n 0 || ltb mostCount (count + over)) ⌝ }
 {
     if n == 0 {
         return true;
     }
-    if n > MOST_COUNT {
+    if over > MOST_COUNT {
         return true;
     }
-    count as u32 + n > MOST_COUNT
+    count as u32 + over > MOST_COUNT
 }
 
-// The smaller of two.
-fn least(a: u8, b: u8) -> u8
-    ensures { λ r. ⌜ r ≡ min a b ⌝ }
+// How many of `n` units go to so many waiters.
+fn least(n: u32, waiters: u8) -> u8
+    ensures { λ r. ⌜ r ≡ min n waiters ⌝ }
 {
-    if a < b { a } else { b }
+    if n < waiters as u32 { n as u8 } else { waiters }
 }
 
 // The units go to the waiters in line order, and the rest is added to the count. Refused in the order −6, −5.
@@ -154,14 +154,14 @@ pub fn post(t: &mut [u8], k: u8, n: u32) -> Answer
     if !e.used {
         return refused::BAD_SEMAPHORE;
     }
-    if too_many(e.count, n) {
+    let line = lines::waiters_line(k);
+    let served = least(n, lines::line_length(t, line));
+    let over = n - served as u32;
+    if too_many(e.count, n, over) {
         return refused::BAD_OPERATION;
     }
-    let units = n as u8;
-    let line = lines::waiters_line(k);
-    let served = least(units, lines::line_length(t, line));
     waiting::serve(t, served, line, Outcome::Done);
-    set_count(t, k as usize, e.count + (units - served));
+    set_count(t, k as usize, e.count + over as u8);
     waiting::accept(t, 0)
 }
 

@@ -1,6 +1,6 @@
 //! The sorts of accepted steps that random runs must meet, told from the tables before and after.
 
-use model::{operation as op, wait, word, THREADS};
+use model::{operation as op, wait, word, FULL_COUNT, THREADS};
 
 use crate::view::View;
 
@@ -72,6 +72,8 @@ pub const SORTS: &[&str] = &[
     "Drop with several waiters",
     "Post serves several and adds the rest",
     "Post serves some and leaves waiters",
+    "Post of more than 99 is accepted",
+    "Post from interrupt of more than 99 is accepted",
     "Lock nested",
     "Unlock, and another thread runs",
     "Tick rotates a rank of several",
@@ -253,5 +255,9 @@ fn see_post(before: View, record: &[u8], see: &mut dyn FnMut(&str)) {
     }
     if units < waiters {
         see("Post serves some and leaves waiters");
+    }
+    if units > u32::from(FULL_COUNT) {
+        let post = cause(record[0]);
+        see(&format!("{post} of more than 99 is accepted"));
     }
 }

@@ -97,14 +97,17 @@ const ON_BUSY: &[(Asked, i32)] = &[
     ((op::OUTCOME, 255, 0, 0, 0), -1),
 ];
 
-/// What Post and Post from interrupt both refuse.
+/// What Post and Post from interrupt both refuse. One thread waits on semaphore 0, so that 100 units
+/// are taken there.
 const POSTS: &[(u8, u32, i32)] = &[
     (3, 1, -6),
     (3, 0, -6),
     (8, 1, -6),
     (255, 100, -6),
     (0, 0, -5),
-    (0, 100, -5),
+    (0, 101, -5),
+    (0, 256, -5),
+    (0, 257, -5),
     (0, u32::MAX, -5),
     (1, 1, -5),
     (1, u32::MAX - 98, -5),
@@ -127,7 +130,9 @@ const UNDER_LOCK: &[(Asked, i32)] = &[
     ((op::RECEIVE, 0, 0, 5, 0), -5),
     ((op::PEND, 0, 0, 5, 0), -5),
     ((op::PEND, 3, 0, 5, 0), -6),
+    ((op::POST, 0, 0, 101, 0), -5),
     ((op::POST_FROM_INTERRUPT, 0, 0, 1, 0), -5),
+    ((op::POST_FROM_INTERRUPT, 0, 0, 100, 0), -5),
     ((op::POST_FROM_INTERRUPT, 2, 0, 1, 0), -5),
     ((op::POST_FROM_INTERRUPT, 3, 0, 1, 0), -6),
 ];

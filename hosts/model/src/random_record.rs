@@ -131,22 +131,22 @@ fn number_for(rng: &mut Rng, table: &[u8], operation: u8, object: u8) -> u32 {
     }
 }
 
-/// Units on the boundaries of the line's length and of the count, and where a sum of 32 bits
-/// wraps.
+/// Units on the boundaries of the line's length, of the most that Post takes, and where a sum of
+/// 32 bits wraps.
 fn units_for(rng: &mut Rng, table: &[u8], object: u8, edge: u32) -> u32 {
     let s = usize::from(object) % SEMAPHORES;
     let count = u32::from(byte(table, at::semaphore(s) + at::COUNT));
     let length = waiters(table, s);
     let few = rng.between(1, 5);
-    let fits = 99u32.saturating_sub(count);
+    let most = (99 + length).saturating_sub(count);
     rng.pick(&[
         few,
         few,
         length,
         length + 1,
         length.saturating_sub(1),
-        fits,
-        fits + 1,
+        most,
+        most + 1,
         0u32.wrapping_sub(count),
         1u32.wrapping_sub(count),
         edge,

@@ -48,22 +48,28 @@ impl Kernel {
         DONE
     }
 
-    /// "Post: −5 if number is 0 or count + number is above 99; from an interrupt also under
-    /// lock."
+    /// Order 4: "From now on Post, from threads and interrupts, answers −5 for number 0 or when the
+    /// count plus the units left over after the waiters are served is above 99." Document 01: "from
+    /// an interrupt also under lock." The waiters are served before what is left over is looked at:
+    /// after a refusal the state is thrown away.
     pub fn post(&mut self, object: u8, number: u32, from_interrupt: bool) -> Reply {
         let (s, count) = self.semaphore_in_use(object)?;
-        let sum = u64::from(count) + u64::from(number);
-        if number == 0 || sum > u64::from(FULL_COUNT) || (from_interrupt && self.locked()) {
+        if number == 0 || (from_interrupt && self.locked()) {
             return Err(code::OPERATION);
         }
-        let rest = self.serve(s, number as u8);
-        self.semaphores[s] = Some(count + rest);
+        let left_over = self.serve(s, number);
+        let sum = u64::from(count) + u64::from(left_over);
+        if sum > u64::from(FULL_COUNT) {
+            return Err(code::OPERATION);
+        }
+        self.semaphores[s] = Some(sum as u8);
         DONE
     }
 
     /// "Units go to waiters in line order, priority notwithstanding (001); each such wait ends
-    /// with 0; the rest is added to the count." Gives the rest.
-    fn serve(&mut self, s: usize, units: u8) -> u8 {
+    /// with 0; the rest is added to the count." Gives the rest, which is what order 4 calls left
+    /// over. A suspended waiter stands in the line and takes its unit.
+    fn serve(&mut self, s: usize, units: u32) -> u32 {
         let mut rest = units;
         while rest > 0 {
             let Some(&first) = self.waiters[s].front() else {

@@ -52,8 +52,17 @@ impl Asked<'_> {
         self.object == 0 || (self.object == self.running() && self.locked())
     }
 
+    /// How many threads wait on the semaphore named as object, suspended or not.
+    fn waiters(&self) -> u64 {
+        let threads = self.table[..16 * 24].chunks(24);
+        let waits = |record: &&[u8]| record[3] == 4 && usize::from(record[4]) == self.object;
+        threads.filter(waits).count() as u64
+    }
+
+    /// Order 4: "when the count plus the units left over after the waiters are served is above 99".
+    /// Where fewer units come than threads wait, the count is 0 and nothing is left over.
     fn too_many(&self) -> bool {
-        u64::from(self.semaphore(1)) + u64::from(self.number) > 99
+        u64::from(self.semaphore(1)) + u64::from(self.number) > 99 + self.waiters()
     }
 
     fn own_mailbox_is_empty(&self) -> bool {
@@ -174,16 +183,30 @@ fn each_code_is_given_exactly_when_its_condition_holds() {
     }
 }
 
-/// Every operation on every object with the boundaries of number and priority, on a few tables.
-#[test]
-fn each_code_on_every_object_and_boundary() {
-    let numbers = [0, 1, 98, 99, 100, 99_999, 100_000, u32::MAX - 98, u32::MAX];
+/// The boundaries of a number. With 0 to 15 waiters the most that Post takes is 99 to 114.
+fn numbers() -> impl Iterator<Item = u32> {
+    let few = [0, 1, 98, 256, 271, 99_999, 100_000, u32::MAX - 98, u32::MAX];
+    few.into_iter().chain(99..=115)
+}
+
+/// The boards on which every object and boundary is asked for.
+fn boards() -> Vec<Board> {
     let mut rng = Rng::new(5);
     let random = (0..12).map(|_| Board {
         table: random_sound(&mut rng),
     });
-    let made = [Board::fresh(), busy(), busy_locked(), busy_init()];
-    for board in made.into_iter().chain(random) {
+    let mut boards: Vec<Board> = random.collect();
+    boards.extend([Board::fresh(), busy(), busy_locked(), busy_init()]);
+    boards.extend([0, 1, 3, 14, 15].map(|number| waiters(number, &[])));
+    boards.extend([waiters(3, &[2]), waiters(15, &[1, 7, 15])]);
+    boards.push(waiters(3, &[1, 2, 3]).after(lock()));
+    boards
+}
+
+/// Every operation on every object with the boundaries of number and priority, on a few tables.
+#[test]
+fn each_code_on_every_object_and_boundary() {
+    for board in boards() {
         for operation in 0..=21 {
             let objects = if OBJECT.contains(&operation) { 18 } else { 2 };
             let priorities: &[u8] = if PRIORITY.contains(&operation) {
@@ -193,7 +216,7 @@ fn each_code_on_every_object_and_boundary() {
             };
             for object in 0..objects {
                 for &priority in priorities {
-                    for number in numbers {
+                    for number in numbers() {
                         let record = model::record(operation, object, priority, number, 0);
                         let want = code(&board.table, &record);
                         let (got, _) = board.clone().ask(&record);

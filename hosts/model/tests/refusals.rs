@@ -229,15 +229,19 @@ fn post_and_post_from_interrupt() {
     for post in [common::post, interrupt_post] {
         all_refused(&busy(), -6, [post(3, 1), post(8, 1), post(255, 1)]);
         all_refused(&busy(), -5, [post(0, 0), post(1, 0), post(2, 0)]);
-        all_refused(&busy(), -5, [post(0, 100), post(1, 1), post(2, 99)]);
+        // One thread waits on semaphore 0, so one unit more is taken there.
+        all_refused(&busy(), -5, [post(0, 101), post(1, 1), post(2, 99)]);
+        all_done(&busy(), [post(0, 100), post(2, 98)]);
         // A sum of 32 bits would wrap here, a sum of 8 bits there.
         all_refused(&busy(), -5, [post(2, u32::MAX), post(1, u32::MAX - 98)]);
-        all_refused(&busy(), -5, [post(0, 256), post(2, 257), post(1, 158)]);
-        all_done(&busy(), [post(0, 99), post(2, 98)]);
+        all_refused(&busy(), -5, [post(0, u32::MAX), post(0, 256), post(0, 257)]);
+        all_refused(&busy(), -5, [post(2, 257), post(1, 158)]);
     }
-    all_done(&busy_locked(), [post(0, 1), post(2, 98)]);
+    all_done(&busy_locked(), [post(0, 1), post(0, 100), post(2, 98)]);
+    all_refused(&busy_locked(), -5, [post(0, 101), post(2, 99)]);
     let post = interrupt_post;
     all_refused(&busy_locked(), -5, [post(0, 1), post(2, 98), post(1, 1)]);
+    all_refused(&busy_locked(), -5, [post(0, 100), post(0, 101)]);
 }
 
 #[test]

@@ -3,7 +3,7 @@
 mod common;
 
 use common::*;
-use model::{at, wait};
+use model::{at, show_record, wait};
 
 /// Waiters 5 (priority 3), 2 (priority 9), 7 (priority 3, suspended) and 3 (priority 6) on
 /// semaphore 4, in this order; Init runs.
@@ -114,13 +114,104 @@ fn post_without_waiters_adds_all() {
     }
 }
 
-/// Units served count against the 99 as well: count + number, not what is left over.
+/// The threads that wait on semaphore 4.
+fn who_waits(board: &Board) -> Vec<u8> {
+    let waits = |&i: &u8| board.record(i.into())[3..5] == [wait::SEMAPHORE, 4];
+    (0..16).filter(waits).collect()
+}
+
+/// This Post to semaphore 4 serves all its waiters, each with outcome 0, and leaves this count.
+fn leaves(before: &Board, post: [u8; 12], count: u32) {
+    let mut board = before.after(post);
+    assert_eq!(u32::from(board.count(4)), count, "{}", show_record(&post));
+    for i in who_waits(before) {
+        board.expect(outcome_of(i), (0, 0));
+        assert_eq!(board.seen(i.into()).wait, (wait::NONE, 0), "thread {i}");
+    }
+}
+
+/// Each of these numbers, posted from a thread and from an interrupt, leaves the count beside it.
+fn each_leaves(board: &Board, numbers: impl IntoIterator<Item = (u32, u32)>) {
+    for (number, count) in numbers {
+        leaves(board, post(4, number), count);
+        leaves(board, interrupt_post(4, number), count);
+    }
+}
+
+/// Each of these numbers, posted from a thread and from an interrupt, is −5 and leaves the table.
+fn each_refused(board: &Board, numbers: impl IntoIterator<Item = u32>) {
+    for number in numbers {
+        board.clone().refused(post(4, number), -5);
+        board.clone().refused(interrupt_post(4, number), -5);
+    }
+}
+
+/// Order 4: "From now on Post, from threads and interrupts, answers −5 for number 0 or when the
+/// count plus the units left over after the waiters are served is above 99."
 #[test]
-fn post_counts_all_units_whoever_waits() {
-    four_waiters().refused(post(4, 100), -5);
-    four_waiters().refused(post(4, 103), -5);
-    four_waiters().refused(interrupt_post(4, 100), -5);
-    four_waiters().done(post(4, 99));
+fn post_counts_only_what_is_left_over() {
+    let board = four_waiters();
+    each_leaves(&board, [(4, 0), (99, 95), (100, 96), (102, 98), (103, 99)]);
+    each_refused(&board, [0, 104, 105, u32::MAX]);
+}
+
+/// Order 4: "a post of 100 with three waiting gets −5, though only 97 would be left." A suspended
+/// waiter stands in the line, so its unit is not left over.
+#[test]
+fn post_of_100_with_three_waiting_leaves_97_whoever_is_suspended() {
+    let some: [&[u8]; 7] = [&[], &[1], &[2], &[3], &[1, 2], &[1, 3], &[2, 3]];
+    for suspended in some.into_iter().chain([&[1, 2, 3][..]]) {
+        let board = waiters(3, suspended);
+        each_leaves(&board, [(3, 0), (99, 96), (100, 97), (101, 98), (102, 99)]);
+        each_refused(&board, [0, 103, 104, u32::MAX]);
+    }
+}
+
+/// After the waiters are served 0 to 99 units may be left over, and not more.
+#[test]
+fn each_waiter_lets_post_take_one_unit_more() {
+    for number in 0..=15 {
+        let (board, served) = (waiters(number, &[]), u32::from(number));
+        let taken = served.max(1)..=served + 99;
+        each_leaves(&board, taken.map(|units| (units, units - served)));
+        each_refused(&board, (served + 100..=served + 130).chain([0]));
+    }
+}
+
+/// With nobody waiting all units are left over.
+#[test]
+fn post_without_waiters_is_refused_where_count_and_number_are_above_99() {
+    for count in 0..=99 {
+        let board = Board::fresh().after(make(4, count));
+        let taken = (1..=99 - count).map(|number| (number, count + number));
+        each_leaves(&board, taken);
+        each_refused(&board, (100 - count..=130).chain([0]));
+    }
+}
+
+/// Numbers that would be small without their upper bits, and those at which a sum of 32 bits would
+/// wrap, with every number of waiters and with every count.
+#[test]
+fn post_of_a_number_up_to_the_top_of_32_bits_wraps_nowhere() {
+    let lines = (0..=15).map(|number| (waiters(number, &[]), u32::from(number)));
+    let counts = (1..=99).map(|count| (Board::fresh().after(make(4, count)), 0));
+    for (board, served) in lines.chain(counts) {
+        let around = |power: u32| power - served..=power + served + 100;
+        each_refused(&board, [256, 65_536, 1 << 31].into_iter().flat_map(around));
+        each_refused(&board, u32::MAX - 120..=u32::MAX);
+    }
+}
+
+/// Order 4 leaves "from an interrupt also under lock" as it is.
+#[test]
+fn under_lock_a_thread_posts_up_to_the_same_limit_and_an_interrupt_nothing() {
+    let board = waiters(3, &[2]).after(lock());
+    for (number, count) in [(3, 0), (99, 96), (100, 97), (102, 99)] {
+        leaves(&board, post(4, number), count);
+        assert_eq!(board.after(post(4, number)).running(), 0);
+        board.clone().refused(interrupt_post(4, number), -5);
+    }
+    each_refused(&board, [0, 103, 104, u32::MAX]);
 }
 
 #[test]

@@ -31,6 +31,13 @@ fn page(path: &str) -> String {
     fs::read_to_string(top().join(path)).expect("the page is there")
 }
 
+/// What a page has under a heading, up to the next.
+fn section<'a>(page: &'a str, heading: &str) -> &'a str {
+    let begins = format!("\n## {heading}\n");
+    let (_, rest) = page.split_once(&begins).expect("the heading is there");
+    rest.split("\n## ").next().unwrap_or(rest)
+}
+
 /// The cells of a page's tables that stand between back quotes, by row and column.
 fn cells(page: &str) -> Vec<Vec<Option<&str>>> {
     let rows = page.lines().filter_map(|line| line.strip_prefix("| "));
@@ -62,7 +69,8 @@ fn the_line_for_the_motors_current() {
     assert_eq!(fs::read(&path).expect("the example"), requests().concat());
     let output = Program::Trace.fed_file(&path);
     let printed = String::from_utf8_lossy(&output.stdout);
-    let shown = column(&page("examples/README.md"), 0);
+    let page = page("examples/README.md");
+    let shown = column(section(&page, "Who is ahead in a line"), 0);
     assert_eq!(printed, shown, "examples/README.md shows otherwise");
     assert!(output.stderr.is_empty());
 }
@@ -99,16 +107,26 @@ fn the_lines_that_are_explained_are_those_of_the_listing() {
     assert!(explained > 10, "{explained} lines are explained");
 }
 
-#[test]
-fn the_listing_that_is_typed_by_hand() {
-    let readme = page("README.md");
-    let listing = page("examples/typed.listing");
-    assert_eq!(column(&readme, 0), listing, "README.md shows other lines");
+/// Under a heading of the page stands the listing, line by line, each with what is printed of it.
+fn shows(path: &str, heading: &str, example: &str) {
+    let page_text = page(path);
+    let table = section(&page_text, heading);
+    let listing = page(example);
+    assert_eq!(column(table, 0), listing, "{path} shows other lines");
     let records = Program::Write.fed(vec![listing.into_bytes()]).stdout;
     let answers = Program::Trace.fed(vec![records]).stdout;
-    assert_eq!(
-        column(&readme, 1).as_bytes(),
-        answers,
-        "README.md shows other answers"
-    );
+    let answers = String::from_utf8_lossy(&answers);
+    assert_eq!(column(table, 1), answers, "{path} shows other answers");
+}
+
+#[test]
+fn the_listing_that_is_typed_by_hand() {
+    let heading = "Requests typed by hand";
+    shows("README.md", heading, "examples/typed.listing");
+}
+
+#[test]
+fn a_whole_roll_at_once() {
+    let heading = "A whole roll at once";
+    shows("examples/README.md", heading, "examples/roll.listing");
 }

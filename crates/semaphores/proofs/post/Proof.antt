@@ -1,9 +1,10 @@
 -- `semaphores::post` meets its contract: each way out is a branch of the rule. Assumes nothing.
+use Prim.Native.Nat.{_-_}
 use native.Mathlib.Omega.{arith}
 use borrow.Author.Needs.{needs}
 use Rattle.rules.specs.Board.{printer}
 use Rattle.rules.specs.Lines.{waiters}
-use Rattle.rules.specs.Semaphores.{countOf, tooMany, posted, doPost}
+use Rattle.rules.specs.Semaphores.{countOf, servedBy, countAfter, tooMany, posted, doPost}
 use Rattle.layout.proofs.Held.{_⨾_}
 use Rattle.waiting.proofs.Doing.{does-nothing, then-does}
 use Rattle.semaphores.proofs.Numbers.{sem-there, sum-fits}
@@ -20,19 +21,6 @@ returns : tie.Need-returns
 unfolding doPost
 returns c = does-nothing (c .before .before .before .before .before .pre .whole) (λ s e. rw (← c .before .before .sem-at .ensures s e, c .if1 .taken))
 
-too-many-requires : tie.Need-too-many-requires
-too-many-requires c κs = search needs
-
-same-length-2 : tie.Need-same-length-2
-same-length-2 c = search needs
-
-returns-2 : tie.Need-returns-2
-unfolding doPost
-returns-2 c = does-nothing (c .before .before .before .before .before .before .before .pre .whole) (λ s e. rw (← c .before .before .before .before .sem-at .ensures s e, tooMany, countOf, c .before .before .if1 .left, ← c .before .too-many .ensures, c .if2 .taken))
-
-cast-units : tie.Need-cast-units
-cast-units c = omega (arith, sum-fits (c .before .before .before .before .sem-at .result .count) (c .before .before .before .before .before .before .before .args .n) (c .before .too-many .ensures) (c .if2 .left))
-
 waiters-line-requires : tie.Need-waiters-line-requires
 waiters-line-requires c κs = search needs
 
@@ -42,26 +30,50 @@ line-length-requires c κs = search needs
 least-requires : tie.Need-least-requires
 least-requires c κs = search needs
 
+cast-over : tie.Need-cast-over
+cast-over c = search needs
+
+sub-over : tie.Need-sub-over
+sub-over c = search needs
+
+too-many-requires : tie.Need-too-many-requires
+too-many-requires c κs = search needs
+
+same-length-2 : tie.Need-same-length-2
+same-length-2 c = search needs
+
+returns-2 : tie.Need-returns-2
+unfolding doPost
+returns-2 c =
+    let start = c .before .before .before .before .before .before .before .before .before .before .before in
+    let sem-at = c .before .before .before .before .before .before .before .before .sem-at in
+    let waiters-line = c .before .before .before .before .before .waiters-line in
+    let line-length = c .before .before .before .line-length in
+    does-nothing (start .pre .whole) (λ s e. rw (← sem-at .ensures s e, tooMany, countAfter, servedBy, countOf, c .before .before .before .before .before .before .if1 .left, ← line-length .ensures s (waiters (start .args .k)) e (waiters-line .ensures), ← c .before .before .least .ensures, ← c .before .too-many .ensures, c .if2 .taken))
+
 serve-requires : tie.Need-serve-requires
 serve-requires c κs = search needs
 
-sub-set-count : tie.Need-sub-set-count
-sub-set-count c = search needs
+cast-set-count : tie.Need-cast-set-count
+cast-set-count c =
+    let start = c .before .before .before .before .before .before .before .before .before .before .before .before .before .before .before .before in
+    let sem-at = c .before .before .before .before .before .before .before .before .before .before .before .before .before .sem-at in
+    let least = c .before .before .before .before .before .before .before .least in
+    omega (arith, sum-fits (sem-at .result .count) (start .args .n) (start .args .n - least .result) (c .before .before .before .before .before .before .too-many .ensures) (c .before .before .before .before .before .if2 .left))
 
 add-set-count : tie.Need-add-set-count
 add-set-count c =
     let start = c .before .before .before .before .before .before .before .before .before .before .before .before .before .before .before .before .before in
     let sem-at = c .before .before .before .before .before .before .before .before .before .before .before .before .before .before .sem-at in
-    let too-many = c .before .before .before .before .before .before .before .before .before .before .before .too-many in
-    let if2 = c .before .before .before .before .before .before .before .before .before .before .if2 in
-    omega (arith, sum-fits (sem-at .result .count) (start .args .n) (too-many .ensures) (if2 .left))
+    let least = c .before .before .before .before .before .before .before .before .least in
+    omega (arith, sum-fits (sem-at .result .count) (start .args .n) (start .args .n - least .result) (c .before .before .before .before .before .before .before .too-many .ensures) (c .before .before .before .before .before .before .if2 .left))
 
 set-count-requires : tie.Need-set-count-requires
 set-count-requires c κs =
     let start = c .before .before .before .before .before .before .before .before .before .before .before .before .before .before .before .before .before in
     let sem-at = c .before .before .before .before .before .before .before .before .before .before .before .before .before .before .sem-at in
     let if1 = c .before .before .before .before .before .before .before .before .before .before .before .before .if1 in
-    let waiters-line = c .before .before .before .before .before .before .before .before .before .waiters-line in
+    let waiters-line = c .before .before .before .before .before .before .before .before .before .before .before .waiters-line in
     (sem-there printer _ (start .args .k) (sem-at .ensures) (if1 .left), c .before .before .before .before .serve .ensures (waiters (start .args .k)) (waiters-line .ensures) .whole)
 
 accept-requires : tie.Need-accept-requires
@@ -76,13 +88,13 @@ returns-3 c =
     let start = c .before .before .before .before .before .before .before .before .before .before .before .before .before .before .before .before .before .before .before .before .before .before .before .before in
     let sem-at = c .before .before .before .before .before .before .before .before .before .before .before .before .before .before .before .before .before .before .before .before .before .sem-at in
     let if1 = c .before .before .before .before .before .before .before .before .before .before .before .before .before .before .before .before .before .before .before .if1 in
-    let too-many = c .before .before .before .before .before .before .before .before .before .before .before .before .before .before .before .before .before .before .too-many in
-    let if2 = c .before .before .before .before .before .before .before .before .before .before .before .before .before .before .before .before .before .if2 in
-    let waiters-line = c .before .before .before .before .before .before .before .before .before .before .before .before .before .before .before .before .waiters-line in
-    let line-length = c .before .before .before .before .before .before .before .before .before .before .before .before .before .before .line-length in
-    let least = c .before .before .before .before .before .before .before .before .before .before .before .before .before .least in
+    let waiters-line = c .before .before .before .before .before .before .before .before .before .before .before .before .before .before .before .before .before .before .waiters-line in
+    let line-length = c .before .before .before .before .before .before .before .before .before .before .before .before .before .before .before .before .line-length in
+    let least = c .before .before .before .before .before .before .before .before .before .before .before .before .before .before .before .least in
+    let too-many = c .before .before .before .before .before .before .before .before .before .before .before .before .before .before .too-many in
+    let if2 = c .before .before .before .before .before .before .before .before .before .before .before .before .before .if2 in
     let serve = c .before .before .before .before .before .before .before .before .before .before .before .serve in
-    then-does (serve .ensures (waiters (start .args .k)) (waiters-line .ensures) ⨾ c .before .before .before .before .before .before .set-count .ensures) (c .before .before .accept .ensures) (λ s h. rw (← sem-at .ensures s (h .says), tooMany, countOf, if1 .left, ← too-many .ensures, if2 .left, ← line-length .ensures s (waiters (start .args .k)) (h .says) (waiters-line .ensures), ← least .ensures))
+    then-does (serve .ensures (waiters (start .args .k)) (waiters-line .ensures) ⨾ c .before .before .before .before .before .before .set-count .ensures) (c .before .before .accept .ensures) (λ s h. rw (← sem-at .ensures s (h .says), tooMany, countAfter, servedBy, countOf, if1 .left, ← line-length .ensures s (waiters (start .args .k)) (h .says) (waiters-line .ensures), ← least .ensures, ← too-many .ensures, if2 .left))
 
 pub post-spec : {M : Type 1} → statement M
 post-spec =
@@ -91,15 +103,16 @@ post-spec =
     sem-at-requires
     same-length
     returns
-    too-many-requires
-    same-length-2
-    returns-2
-    cast-units
     waiters-line-requires
     line-length-requires
     least-requires
+    cast-over
+    sub-over
+    too-many-requires
+    same-length-2
+    returns-2
     serve-requires
-    sub-set-count
+    cast-set-count
     add-set-count
     set-count-requires
     accept-requires

@@ -1,4 +1,4 @@
--- `semaphores::too_many` meets its contract: a number above 99 alone is too many, so that the sum does not wrap. Assumes nothing.
+-- `semaphores::too_many` meets its contract: more than 99 left over is too many by itself, so that the sum does not wrap. Assumes nothing.
 use Prim.Native.Nat.{_+_}
 use native.Mathlib.Omega.{arith}
 use borrow.Author.Needs.{needs}
@@ -11,7 +11,7 @@ returns : tie.Need-returns
 returns c = rw (eq-eqb (c .before .args .n) 0 (c .if1 .taken))
 
 returns-2 : tie.Need-returns-2
-returns-2 c = rw (ne-eqb (c .before .before .args .n) 0 (c .before .if1 .left), lt-ltb mostCount (c .before .before .args .count + c .before .before .args .n) (omega arith))
+returns-2 c = rw (ne-eqb (c .before .before .args .n) 0 (c .before .if1 .left), lt-ltb mostCount (c .before .before .args .count + c .before .before .args .over) (omega arith))
 
 add-result : tie.Need-add-result
 add-result c = search needs

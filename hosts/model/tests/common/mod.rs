@@ -1,5 +1,6 @@
 //! What the tests share: a board that puts requests to the door and checks what holds for every
-//! answer, the requests by their names, and a busy board with a thread in every state.
+//! answer, the requests by their names, a busy board with a thread in every state, and one on which
+//! threads wait on a semaphore.
 
 #![allow(dead_code)]
 
@@ -198,6 +199,20 @@ pub fn busy_locked() -> Board {
 /// The busy board with threads 1 and 2 suspended, so that Init runs.
 pub fn busy_init() -> Board {
     let board = busy().after(suspend(2)).after(suspend(1));
+    assert_eq!(board.running(), 0);
+    board
+}
+
+/// Threads 1 to `number` wait on semaphore 4, in this order, and these of them are suspended; Init
+/// runs.
+pub fn waiters(number: u8, suspended: &[u8]) -> Board {
+    let mut board = Board::fresh().after(make(4, 0));
+    for i in 1..=number {
+        board.done(create(i, 20 - i, 7));
+        board.behind(pend(4, 100_000), u32::from(i) - 1);
+    }
+    let suspend = |board: Board, &i: &u8| board.after(suspend(i));
+    let board = suspended.iter().fold(board, suspend);
     assert_eq!(board.running(), 0);
     board
 }
