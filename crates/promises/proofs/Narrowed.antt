@@ -9,8 +9,8 @@ use borrow.Author.Tests.{lt-ltb, le-ltb}
 use Rattle.rules.specs.State.{semAt}
 use Rattle.laws.proofs.Split.{is, isnt, test, clash}
 use Rattle.laws.proofs.Reflect.{reflect}
-use Rattle.promises.specs.Refusals.{locked, unitsOver}
-use Rattle.promises.specs.Narrowed.{before, waitersOn, Narrowed}
+use Rattle.promises.specs.Refusals.{locked, waitersOn, unitsOver}
+use Rattle.promises.specs.Narrowed.{before, Narrowed}
 
 -- two tests whose numbers are above together give the same
 above-as : (a b c d : ℕ) → (a ≤ b → c ≤ d) → (c ≤ d → a ≤ b) → ltb b a ≡ ltb d c

@@ -4,18 +4,13 @@ use mathlib.Core.Bool.{Bool, true, _||_}
 use mathlib.Core.Path.{_≡_}
 use Prim.Native.Nat.{ℕ, _+_, _≤_}
 use lib.Dec.{eqb, ltb}
-use Rattle.rules.specs.Basic.{count}
 use Rattle.rules.specs.State.{State, semAt}
 use Rattle.rules.specs.declared.Request.the-variants as Ask
-use Rattle.promises.specs.Refusals.{locked, waitsOn, minus5}
+use Rattle.promises.specs.Refusals.{locked, waitersOn, minus5}
 
 -- "−5 if number is 0 or count + number is above 99": all units count, those that go to waiters too
 abbrev pub before : State → ℕ → ℕ → Bool
 before s k n = eqb n 0 || ltb 99 (semAt (s .sems) k .count + n)
-
--- how many threads wait on semaphore k
-abbrev pub waitersOn : State → ℕ → ℕ
-waitersOn s k = count (waitsOn k) (s .threads)
 
 pub record Narrowed : Type 0 where
   -- "−5 narrowed": what is refused now was refused before

@@ -140,9 +140,12 @@ onSemaphore k (Semaphore on c) = eqb on k
 abbrev pub waitsOn : ℕ → Thread → Bool
 waitsOn k t = t .used && onSemaphore k (t .wait)
 
--- order 4: "the units left over after the waiters are served": each waiter takes one, and 0 are left where there are as many waiters or more
+abbrev pub waitersOn : State → ℕ → ℕ
+waitersOn s k = count (waitsOn k) (s .threads)
+
+-- order 4: "the units left over after the waiters are served": each takes one, and 0 are left where as many wait or more
 abbrev pub unitsOver : State → ℕ → ℕ → ℕ
-unitsOver s k n = n - count (waitsOn k) (s .threads)
+unitsOver s k n = n - waitersOn s k
 
 -- "−5: as said under each operation below"
 abbrev pub minus5 : State → Request → Bool

@@ -87,19 +87,14 @@ minus k r = record { code = negsuc (pred k); value = 0; running = r }
 
 -- CASES
 
--- bytes that a record of the table holds from an offset on
+-- bytes that a thread's record holds from an offset on
 pub record Held : Type 0 where
-  pub row : ℕ
+  pub thread : ℕ
   pub offset : ℕ
   pub bytes : List ℕ
 
--- thread i's record
 abbrev held : ℕ → ℕ → List ℕ → Held
-held i k bs = record { row = i; offset = k; bytes = bs }
-
--- semaphore k's: "byte 0 in use, 1 count"
-abbrev counts : ℕ → ℕ → Held
-counts k n = record { row = printer .threads + k; offset = 0; bytes = 1 ∷ n ∷ [] }
+held i k bs = record { thread = i; offset = k; bytes = bs }
 
 pub record Case : Type 0 where
   pub asked : List (List ℕ)
@@ -198,19 +193,21 @@ table =
     ∷ case
     (make 1 0 ∷ make 2 0 ∷ create 1 5 5 ∷ pend 1 9 ∷ create 2 5 5 ∷ pend 2 9 ∷ create 3 5 5 ∷ send 1 0 40 ∷ send 1 9 41 ∷ create 4 5 5 ∷ pend 2 9 ∷ outcome 4 ∷ [])
     (done 0 ∷ done 0 ∷ done 1 ∷ blocked 0 ∷ done 2 ∷ blocked 0 ∷ done 3 ∷ done 3 ∷ blocked 0 ∷ done 4 ∷ behind 1 0 ∷ blocked 0 ∷ [])
-    -- order 4: "the count plus the units left over after the waiters are served is above 99". Three wait: Post 103 is refused, Post 102 leaves 99
-    ∷ caseHolding (three ++ (post 0 103 ∷ post 0 102 ∷ [])) (threeWait ++ (minus 5 0 ∷ done 1 ∷ [])) (counts 0 99 ∷ [])
-    -- "a post of 100 with three waiting gets −5, though only 97 would be left"
-    ∷ caseHolding (three ++ (post 0 100 ∷ [])) (threeWait ++ (done 1 ∷ [])) (counts 0 97 ∷ [])
+    -- order 4: "the count plus the units left over after the waiters are served is above 99". Three wait: Post 103 is refused, and Post 102
+    -- leaves 99; a Pend takes one of them, and says that 98 are left
+    ∷ case (three ++ (post 0 103 ∷ post 0 102 ∷ pend 0 0 ∷ [])) (threeWait ++ (minus 5 0 ∷ done 1 ∷ gives 98 1 ∷ []))
+    -- "a post of 100 with three waiting gets −5, though only 97 would be left": here it leaves 97
+    ∷ case (three ++ (post 0 100 ∷ pend 0 0 ∷ [])) (threeWait ++ (done 1 ∷ gives 96 1 ∷ []))
     -- the same where the second of the three is suspended: it is served as well
-    ∷ caseHolding (three ++ (suspend 2 ∷ post 0 103 ∷ post 0 102 ∷ outcome 2 ∷ [])) (threeWait ++ (done 0 ∷ minus 5 0 ∷ done 1 ∷ done 1 ∷ [])) (counts 0 99 ∷ [])
+    ∷ case
+    (three ++ (suspend 2 ∷ post 0 103 ∷ post 0 102 ∷ outcome 2 ∷ pend 0 0 ∷ []))
+    (threeWait ++ (done 0 ∷ minus 5 0 ∷ done 1 ∷ done 1 ∷ gives 98 1 ∷ []))
     -- "from threads and interrupts"; under lock an interrupt's is refused as before
-    ∷ caseHolding
-    (three ++ (suspend 2 ∷ lockOn ∷ postFromInterrupt 0 100 ∷ unlock ∷ postFromInterrupt 0 103 ∷ postFromInterrupt 0 100 ∷ []))
-    (threeWait ++ (done 0 ∷ done 0 ∷ minus 5 0 ∷ done 0 ∷ minus 5 0 ∷ done 1 ∷ []))
-    (counts 0 97 ∷ [])
+    ∷ case
+    (three ++ (suspend 2 ∷ lockOn ∷ postFromInterrupt 0 100 ∷ unlock ∷ postFromInterrupt 0 103 ∷ postFromInterrupt 0 100 ∷ pend 0 0 ∷ []))
+    (threeWait ++ (done 0 ∷ done 0 ∷ minus 5 0 ∷ done 0 ∷ minus 5 0 ∷ done 1 ∷ gives 96 1 ∷ []))
     -- no sum wraps: with count 1 and nobody waiting, the largest number is too many
-    ∷ caseHolding (make 0 1 ∷ post 0 4294967295 ∷ post 0 99 ∷ post 0 98 ∷ []) (done 0 ∷ minus 5 0 ∷ minus 5 0 ∷ done 0 ∷ []) (counts 0 99 ∷ [])
+    ∷ case (make 0 1 ∷ post 0 4294967295 ∷ post 0 99 ∷ post 0 98 ∷ pend 0 0 ∷ []) (done 0 ∷ minus 5 0 ∷ minus 5 0 ∷ done 0 ∷ gives 98 0 ∷ [])
     ∷ []
 
 -- WHAT IS GIVEN, WHAT IS EXPECTED
@@ -224,7 +221,7 @@ joined [] = []
 joined (r ∷ rs) = r ++ joined rs
 
 unfoldable pub bytesAt : List ℕ → Held → List ℕ
-bytesAt t h = take (length (h .bytes)) (drop (h .row * recordLength + h .offset) t)
+bytesAt t h = take (length (h .bytes)) (drop (h .thread * recordLength + h .offset) t)
 
 unfoldable pub given : Case → Shown
 given c =

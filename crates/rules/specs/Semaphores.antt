@@ -48,7 +48,7 @@ doPend s k n =
 unfoldable pub doAbort : State → ℕ → Step
 doAbort s i = breakOff pending s i
 
--- "Units go to waiters in line order": so many of n units do, suspended waiters among them, which stay in the line
+-- "Units go to waiters in line order": how many of n units do. A suspended waiter stays in the line, and takes one too.
 abbrev pub servedBy : State → ℕ → ℕ → ℕ
 servedBy s k n = min n (lineLength (waiters k) (s .threads))
 

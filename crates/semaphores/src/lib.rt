@@ -125,7 +125,7 @@ pub fn abort(t: &mut [u8], i: u8) -> Answer
 
 // POST
 
-// Number 0, or more than 99 with the units left over of it.
+// Order 4: "number 0 or when the count plus the units left over after the waiters are served is above 99".
 fn too_many(count: u8, n: u32, over: u32) -> bool
     ensures { λ r. ⌜ r ≡ (eqb n 0 || ltb mostCount (count + over)) ⌝ }
 {
@@ -139,7 +139,7 @@ fn too_many(count: u8, n: u32, over: u32) -> bool
 }
 
 // How many of `n` units go to so many waiters.
-fn least(n: u32, waiters: u8) -> u8
+fn served_by(n: u32, waiters: u8) -> u8
     ensures { λ r. ⌜ r ≡ min n waiters ⌝ }
 {
     if n < waiters as u32 { n as u8 } else { waiters }
@@ -155,7 +155,7 @@ pub fn post(t: &mut [u8], k: u8, n: u32) -> Answer
         return refused::BAD_SEMAPHORE;
     }
     let line = lines::waiters_line(k);
-    let served = least(n, lines::line_length(t, line));
+    let served = served_by(n, lines::line_length(t, line));
     let over = n - served as u32;
     if too_many(e.count, n, over) {
         return refused::BAD_OPERATION;

@@ -27,8 +27,8 @@ waiters-line-requires c κs = search needs
 line-length-requires : tie.Need-line-length-requires
 line-length-requires c κs = search needs
 
-least-requires : tie.Need-least-requires
-least-requires c κs = search needs
+served-by-requires : tie.Need-served-by-requires
+served-by-requires c κs = search needs
 
 cast-over : tie.Need-cast-over
 cast-over c = search needs
@@ -49,7 +49,7 @@ returns-2 c =
     let sem-at = c .before .before .before .before .before .before .before .before .sem-at in
     let waiters-line = c .before .before .before .before .before .waiters-line in
     let line-length = c .before .before .before .line-length in
-    does-nothing (start .pre .whole) (λ s e. rw (← sem-at .ensures s e, tooMany, countAfter, servedBy, countOf, c .before .before .before .before .before .before .if1 .left, ← line-length .ensures s (waiters (start .args .k)) e (waiters-line .ensures), ← c .before .before .least .ensures, ← c .before .too-many .ensures, c .if2 .taken))
+    does-nothing (start .pre .whole) (λ s e. rw (← sem-at .ensures s e, tooMany, countAfter, servedBy, countOf, c .before .before .before .before .before .before .if1 .left, ← line-length .ensures s (waiters (start .args .k)) e (waiters-line .ensures), ← c .before .before .served-by .ensures, ← c .before .too-many .ensures, c .if2 .taken))
 
 serve-requires : tie.Need-serve-requires
 serve-requires c κs = search needs
@@ -58,15 +58,15 @@ cast-set-count : tie.Need-cast-set-count
 cast-set-count c =
     let start = c .before .before .before .before .before .before .before .before .before .before .before .before .before .before .before .before in
     let sem-at = c .before .before .before .before .before .before .before .before .before .before .before .before .before .sem-at in
-    let least = c .before .before .before .before .before .before .before .least in
-    omega (arith, sum-fits (sem-at .result .count) (start .args .n) (start .args .n - least .result) (c .before .before .before .before .before .before .too-many .ensures) (c .before .before .before .before .before .if2 .left))
+    let served-by = c .before .before .before .before .before .before .before .served-by in
+    omega (arith, sum-fits (sem-at .result .count) (start .args .n) (start .args .n - served-by .result) (c .before .before .before .before .before .before .too-many .ensures) (c .before .before .before .before .before .if2 .left))
 
 add-set-count : tie.Need-add-set-count
 add-set-count c =
     let start = c .before .before .before .before .before .before .before .before .before .before .before .before .before .before .before .before .before in
     let sem-at = c .before .before .before .before .before .before .before .before .before .before .before .before .before .before .sem-at in
-    let least = c .before .before .before .before .before .before .before .before .least in
-    omega (arith, sum-fits (sem-at .result .count) (start .args .n) (start .args .n - least .result) (c .before .before .before .before .before .before .before .too-many .ensures) (c .before .before .before .before .before .before .if2 .left))
+    let served-by = c .before .before .before .before .before .before .before .before .served-by in
+    omega (arith, sum-fits (sem-at .result .count) (start .args .n) (start .args .n - served-by .result) (c .before .before .before .before .before .before .before .too-many .ensures) (c .before .before .before .before .before .before .if2 .left))
 
 set-count-requires : tie.Need-set-count-requires
 set-count-requires c κs =
@@ -90,11 +90,11 @@ returns-3 c =
     let if1 = c .before .before .before .before .before .before .before .before .before .before .before .before .before .before .before .before .before .before .before .if1 in
     let waiters-line = c .before .before .before .before .before .before .before .before .before .before .before .before .before .before .before .before .before .before .waiters-line in
     let line-length = c .before .before .before .before .before .before .before .before .before .before .before .before .before .before .before .before .line-length in
-    let least = c .before .before .before .before .before .before .before .before .before .before .before .before .before .before .before .least in
+    let served-by = c .before .before .before .before .before .before .before .before .before .before .before .before .before .before .before .served-by in
     let too-many = c .before .before .before .before .before .before .before .before .before .before .before .before .before .before .too-many in
     let if2 = c .before .before .before .before .before .before .before .before .before .before .before .before .before .if2 in
     let serve = c .before .before .before .before .before .before .before .before .before .before .before .serve in
-    then-does (serve .ensures (waiters (start .args .k)) (waiters-line .ensures) ⨾ c .before .before .before .before .before .before .set-count .ensures) (c .before .before .accept .ensures) (λ s h. rw (← sem-at .ensures s (h .says), tooMany, countAfter, servedBy, countOf, if1 .left, ← line-length .ensures s (waiters (start .args .k)) (h .says) (waiters-line .ensures), ← least .ensures, ← too-many .ensures, if2 .left))
+    then-does (serve .ensures (waiters (start .args .k)) (waiters-line .ensures) ⨾ c .before .before .before .before .before .before .set-count .ensures) (c .before .before .accept .ensures) (λ s h. rw (← sem-at .ensures s (h .says), tooMany, countAfter, servedBy, countOf, if1 .left, ← line-length .ensures s (waiters (start .args .k)) (h .says) (waiters-line .ensures), ← served-by .ensures, ← too-many .ensures, if2 .left))
 
 pub post-spec : {M : Type 1} → statement M
 post-spec =
@@ -105,7 +105,7 @@ post-spec =
     returns
     waiters-line-requires
     line-length-requires
-    least-requires
+    served-by-requires
     cast-over
     sub-over
     too-many-requires
