@@ -155,9 +155,11 @@ on_terminal() {
 
 # PID..: none of these is at work.
 gone() {
-  local pid
+  local pid stat
   for pid in "$@"; do
-    [ ! -e "/proc/$pid/stat" ] || [[ $(cat "/proc/$pid/stat" 2>/dev/null) =~ \)\ [ZX] ]] || return 1
+    # one that goes while it is read is gone
+    stat=$(cat "/proc/$pid/stat" 2>/dev/null) || continue
+    [[ $stat =~ \)\ [ZX] ]] || return 1
   done
 }
 
