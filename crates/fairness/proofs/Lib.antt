@@ -6,3 +6,4 @@ pub mod Operations
 pub mod View
 pub mod Ticks
 pub mod Fair
+pub mod Doors

@@ -2,7 +2,7 @@
 -- Assumes nothing.
 use mathlib.Core.Path.{_≡_, refl, sym, ap, _∙_}
 use mathlib.Core.List.{List, [], _∷_, _++_}
-use Prim.Native.Nat.{ℕ, zero, suc, _+_, _*_, _/_, _%_, _≤_, _<_}
+use Prim.Native.Nat.{ℕ, zero, suc, _+_, _*_, _/_, _%_, _≤_, _<_, min}
 use native.Mathlib.Omega.{arith}
 use native.Mathlib.Nat.{zero-add, suc-add}
 use lib.ListN.{length, take, drop, length-append, length-drop}
@@ -16,7 +16,7 @@ unfolding records
 records-length zero xs = refl
 records-length (suc k) xs = ap suc (records-length k (drop requestLength xs))
 
-records-add : (k m : ℕ) (xs : List ℕ) → records (k + m) xs ≡ records k xs ++ records m (drop (k * requestLength) xs)
+pub records-add : (k m : ℕ) (xs : List ℕ) → records (k + m) xs ≡ records k xs ++ records m (drop (k * requestLength) xs)
 unfolding records
 records-add zero m xs = ap (λ k. records k xs) (zero-add m)
 records-add (suc k) m xs =
@@ -25,13 +25,22 @@ records-add (suc k) m xs =
     ∙ ap (λ rs. take requestLength xs ∷ rs) (records-add k m (drop requestLength xs))
     ∙ ap (λ l. records (suc k) xs ++ records m l) (drop-drop (k * requestLength) requestLength xs ∙ ap (λ j. drop j xs) place)
 
-records-front : (k : ℕ) (xs ys : List ℕ) → k * requestLength ≤ length xs → records k (xs ++ ys) ≡ records k xs
+pub records-front : (k : ℕ) (xs ys : List ℕ) → k * requestLength ≤ length xs → records k (xs ++ ys) ≡ records k xs
 unfolding records
 records-front zero xs ys h = refl
 records-front (suc k) xs ys h = λ j.
     take-append-le requestLength xs ys (omega arith) j
     ∷ (ap (records k) (drop-append-le requestLength xs ys (omega arith))
     ∙ records-front k (drop requestLength xs) ys (omega (arith, length-drop requestLength xs))) j
+
+-- the first of them
+pub records-take : (k n : ℕ) (xs : List ℕ) → take k (records n xs) ≡ records (min n k) xs
+unfolding records
+records-take zero n xs = let none : 0 ≡ min n 0 = omega arith in ap (λ m. records m xs) none
+records-take (suc k) zero xs = let none : 0 ≡ min 0 (suc k) = omega arith in ap (λ m. records m xs) none
+records-take (suc k) (suc n) xs =
+    let fewer : suc (min n k) ≡ min (suc n) (suc k) = omega arith in
+    ap (λ rs. take requestLength xs ∷ rs) (records-take k n (drop requestLength xs)) ∙ ap (λ m. records m xs) fewer
 
 -- the records of a list that goes on: those that are whole, and those of the left-over bytes with the rest
 module _ (come more : List ℕ) where

@@ -9,4 +9,5 @@ pub mod Third
 pub mod Figures
 pub mod Computed
 pub mod Incident
+pub mod Lanes
 pub mod Rejected

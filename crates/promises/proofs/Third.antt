@@ -5,26 +5,19 @@ use mathlib.Core.Path.{_≡_, refl}
 use mathlib.Core.List.{List, [], _∷_, _++_}
 use Prim.Native.Nat.{ℕ}
 use native.Mathlib.Omega.{arith}
-use lib.Dec.{eqb}
 use borrow.Author.Tests.{not-true}
-use lib.ListN.{length, take, drop, take-append-drop}
+use lib.ListN.{take, drop, take-append-drop}
 use Rattle.rules.specs.Basic.{all}
 use Rattle.rules.specs.Board.{Board}
 use Rattle.rules.specs.State.{State}
 use Rattle.rules.specs.Table.{decode}
-use Rattle.rules.specs.Answers.{areaLength}
-use Rattle.rules.specs.Requests.{decodeRequest}
-use Rattle.rules.specs.Test.{soundTable}
-use Rattle.rules.specs.Door.{serveDecoded, door, Handed}
-use Rattle.rules.specs.declared.Decoded.{Decoded}
-use Rattle.rules.specs.declared.Decoded.the-variants.{Asked, Bad}
-use Rattle.laws.proofs.Split.{and-true, and-both, and-off, if-case}
-use Rattle.layout.proofs.RoundTrip.{on-decode, decode-encode}
-use Rattle.preservation.proofs.Frame.{on-kept}
+use Rattle.rules.specs.Door.{door}
+use Rattle.laws.proofs.Split.{and-true, and-both, and-off}
 use Rattle.fairness.specs.Run.{Event, Deed, tick, yield, other, change, create, deed, accepted, readyAt, sameSet, disturbs, undisturbed}
-use Rattle.fairness.specs.Doors.{Door, eventOf, runOf}
-use Rattle.fairness.specs.Fair.{ByRules, refused, served, RunFrom, moves, steady}
+use Rattle.fairness.specs.Doors.{Door, runOf}
+use Rattle.fairness.specs.Fair.{moves, steady}
 use Rattle.fairness.proofs.Fair.{fairness}
+use Rattle.fairness.proofs.Doors.{run-by-rules}
 use Rattle.promises.specs.Demand3.{FairDoor, Demand3, FairRounds, WholeRounds}
 
 -- NOBODY MOVES BY ITSELF
@@ -45,23 +38,7 @@ all-steady p (e ∷ es) h k =
     let b = and-true (undisturbed p e) _ k in
     and-both _ _ (and-both _ _ (a .0) (moves-not (accepted e) p (e .before) (deed (e .asked)) (b .0))) (all-steady p es (a .1) (b .1))
 
--- ONE CALL, as an event by the rules
-
-serves : (b : Board) (t : List ℕ) (h : Handed) (x : Decoded) → decodeRequest (h .request) ≡ x → ByRules (eventOf b t h (serveDecoded b t x))
-unfolding serveDecoded
-serves b t h (Asked q) e = served q e refl (decode-encode (on-kept b (decode b t) q (on-decode b t)))
-serves b t h Bad e = refused refl refl
-
-opens : (b : Board) (t : List ℕ) (h : Handed) → ByRules (eventOf b t h (door b t (h .request) (h .area)))
-unfolding door
-opens b t h = if-case (λ r. ByRules (eventOf b t h r)) (eqb (length (h .area)) areaLength && soundTable b t) (λ e. serves b t h _ refl) (λ e. refused refl refl)
-
 -- THE RUN
-
-pub run-by-rules : (b : Board) (t : List ℕ) (hs : List Handed) → RunFrom (decode b t) (runOf b (door b) t hs)
-unfolding runOf
-run-by-rules b t [] = tt
-run-by-rules b t (h ∷ hs) = (refl, opens b t h, run-by-rules b (door b t (h .request) (h .area) .table) hs)
 
 pub whole-rounds : WholeRounds
 whole-rounds b t hs p from steps σ same quiet k full i m =

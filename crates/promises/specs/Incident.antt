@@ -4,8 +4,9 @@
 -- all, and its lines come late: only the odd seats fail at the gate. Such a rule does not meet demand 3.
 use mathlib.Core.Bool.{Bool, true, _&&_}
 use mathlib.Core.Path.{_≡_}
-use mathlib.Core.List.{List, [], _∷_, _++_}
+use mathlib.Core.List.{List, [], _∷_, _++_, map, flatten}
 use Prim.Native.Nat.{ℕ, zero, suc}
+use Prim.Native.String.{String}
 use lib.Dec.{ltb}
 use Rattle.rules.specs.Basic.{if_then_else_}
 use Rattle.rules.specs.Board.{printer}
@@ -15,7 +16,10 @@ use Rattle.rules.specs.Table.{encode, decode}
 use Rattle.rules.specs.Door.{door, freshTable, tableAfter}
 use Rattle.rules.specs.declared.Request.{Request}
 use Rattle.rules.specs.declared.Request.the-variants.{Create, Make, Pend, PostFromInterrupt, Tick}
+use Rattle.request.specs.Written.{written}
+use Rattle.text.specs.Text.{ascii}
 use Rattle.fairness.specs.Doors.{Door}
+use Rattle.lanes.specs.Report.{reportBy}
 use Rattle.promises.specs.Demand3.{FairDoor}
 use Rattle.promises.specs.Figures.{asks, share, Figures, figures}
 
@@ -48,8 +52,11 @@ right = 2
 abbrev cutter : ℕ
 cutter = 3
 
+abbrev setUp : List Request
+setUp = Make 0 0 ∷ Create cutter 9 1 ∷ Pend 0 99999 ∷ Create left 5 2 ∷ Create right 5 2 ∷ []
+
 unfoldable pub lanes : List ℕ
-lanes = tableAfter printer (freshTable printer) (asks (Make 0 0 ∷ Create cutter 9 1 ∷ Pend 0 99999 ∷ Create left 5 2 ∷ Create right 5 2 ∷ []))
+lanes = tableAfter printer (freshTable printer) (asks setUp)
 
 -- the cutter's interrupt posts; the cutter runs and waits again
 abbrev cut : List Request
@@ -90,3 +97,20 @@ pub record OnlyTheOddSeats : Type 0 where
 -- so the door of the incident is not fair
 abbrev pub Incident : Type 0
 Incident = FairDoor printer sendsBack → ⊥
+
+-- IN THE REPORT. Order 5's report of the same requests, from a fresh table on: the left lane's lag by each rule. A lag is counted in quarters of a
+-- tick here, since the turns of the two lanes sum to 4.
+unfoldable pub reported : Door → List Request → List ℕ
+reported d rs = reportBy printer d (flatten (map written (setUp ++ rs)))
+
+-- of Init and the cutter, which are charged nothing, and of the lanes
+abbrev reads : String → String → List ℕ
+reads l r = ascii "0 0 0\n" ++ ascii l ++ ascii r ++ ascii "3 0 0\n"
+
+pub record OddSeatsReported : Type 0 where
+  -- after three rounds the left lane is 2 ticks behind its share of 6, and the right lane 2 ahead; after two rounds in which it got nothing, 4
+  pub behind : reported sendsBack (cutAfterTick 4) ≡ reads "1 4 -8\n" "2 8 8\n"
+  pub nothing : reported sendsBack (cutAtOnce 4) ≡ reads "1 0 -16\n" "2 8 16\n"
+  -- by the rules nobody is
+  pub ruled : reported (door printer) (cutAfterTick 4) ≡ reads "1 6 0\n" "2 6 0\n"
+  pub ruledAtOnce : reported (door printer) (cutAtOnce 4) ≡ reads "1 4 0\n" "2 4 0\n"

@@ -8,5 +8,6 @@ pub mod Demand2
 pub mod Demand3
 pub mod Figures
 pub mod Rounds
+pub mod Lanes
 pub mod Incident
 pub mod Rejected

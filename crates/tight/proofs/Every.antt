@@ -137,4 +137,11 @@ each = record {
     λ j. record { number = (p .1 .0 ∙ sym (q .1 .0)) j; held = (p .1 .1 .0 ∙ sym (q .1 .1 .0)) j; next = d .1 j },
     λ j. ((p .0 .table ∙ sym (q .0 .table)) j, (ws .1 .0, ((p .1 .1 .1 ∙ sym (q .1 .1 .1)) j, (ws .1 .1 .1 .0, (d .0 j, ws .1 .1 .1 .1 .1))))),
   );
+  -- accounts
+  accounts-serve = λ κs a z z′ ws ws′ h p q. (
+    λ j. record { number = (p .0 .0 ∙ sym (q .0 .0)) j; held = (p .0 .1 ∙ sym (q .0 .1)) j },
+    λ j. ((p .1 .0 ∙ sym (q .1 .0)) j, ((p .1 .1 .0 ∙ sym (q .1 .1 .0)) j, (ws .1 .1 .0, ((p .1 .1 .1 ∙ sym (q .1 .1 .1)) j, ws .1 .1 .1 .1)))),
+  );
+  -- lags
+  lags-put-report = λ κs a z z′ ws ws′ h p q. let d = puts-tight (p .0) (q .0) in (d .1, λ j. (ws .0, (ws .1 .0, (ws .1 .1 .0, (d .0 j, ws .1 .1 .1 .1)))));
 }

@@ -15,10 +15,12 @@ use Rattle.promises.specs.Demand1.{Answered}
 use Rattle.promises.specs.Demand2.{Ruled}
 use Rattle.fairness.specs.Doors.{eventOf, runOf}
 use Rattle.promises.specs.Demand3.{Fair, Shares}
+use Rattle.promises.specs.Lanes.{NoLagIn}
 use Rattle.tight.specs.Kernel.{Call, Runs, events, Kernel}
 use Rattle.promises.proofs.First.{first}
 use Rattle.promises.proofs.Second.{second}
 use Rattle.promises.proofs.Third.{whole-rounds, demand3}
+use Rattle.promises.proofs.Lanes.{no-lags}
 
 -- three facts, one after the other, are one
 three : {M : Type 1} (𝓤 : URA M) (a b c φ : Type 0) → (a → b → c → φ) → ent 𝓤 (sep 𝓤 (fact 𝓤 a) (sep 𝓤 (fact 𝓤 b) (fact 𝓤 c))) (fact 𝓤 φ)
@@ -51,4 +53,5 @@ kernel = record {
   second = λ x d σ e. subst (λ d. Ruled printer (now (x .table)) (now (x .request)) (now (x .area)) d) (sym e) (second .ruled printer _ _ _ σ);
   third = λ t cs h. subst (λ es. Fair printer t es) (run-of t cs h) (demand3 printer t (map handed cs));
   shares = λ t cs h. subst (λ es. Shares printer t es) (run-of t cs h) (whole-rounds printer t (map handed cs));
+  lags = λ t cs σ h. subst (λ es. NoLagIn printer t es) (run-of t cs h) (no-lags .from printer t (map handed cs) σ);
 }

@@ -18,6 +18,8 @@ use Rattle.text.proofs as text
 use Rattle.parts.proofs as parts
 use Rattle.writer.proofs as writer
 use Rattle.replay.proofs as replay
+use Rattle.accounts.proofs as accounts
+use Rattle.lags.proofs as lags
 use Rattle.tight.specs.Promise.{Determines}
 
 pub record Each : Type 1 where
@@ -134,3 +136,7 @@ pub record Each : Type 1 where
   pub replay-finish : Determines replay.finish.Kinds.ps replay.finish.Kinds.r replay.finish.Reads.Pre replay.finish.Reads.Post
   pub replay-fresh : Determines replay.fresh.Kinds.ps replay.fresh.Kinds.r replay.fresh.Reads.Pre replay.fresh.Reads.Post
   pub replay-serve : Determines replay.serve.Kinds.ps replay.serve.Kinds.r replay.serve.Reads.Pre replay.serve.Reads.Post
+  -- accounts
+  pub accounts-serve : Determines accounts.serve.Kinds.ps accounts.serve.Kinds.r accounts.serve.Reads.Pre accounts.serve.Reads.Post
+  -- lags
+  pub lags-put-report : Determines lags.put_report.Kinds.ps lags.put_report.Kinds.r lags.put_report.Reads.Pre lags.put_report.Reads.Post

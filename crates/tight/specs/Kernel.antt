@@ -24,6 +24,7 @@ use Rattle.promises.specs.Demand1.{Answered}
 use Rattle.promises.specs.Demand2.{Ruled}
 use Rattle.fairness.specs.Doors.{eventOf}
 use Rattle.promises.specs.Demand3.{Fair, Shares}
+use Rattle.promises.specs.Lanes.{NoLagIn}
 
 -- ONE CALL
 
@@ -91,3 +92,5 @@ pub record Kernel : Type 2 where
   pub third : (t : List ℕ) (cs : List Call) → Runs t cs → Fair printer t (events t cs)
   -- and the share over whole rounds
   pub shares : (t : List ℕ) (cs : List Call) → Runs t cs → Shares printer t (events t cs)
+  -- order 5: and no lag after whole rounds
+  pub lags : (t : List ℕ) (cs : List Call) → SoundTable printer t → Runs t cs → NoLagIn printer t (events t cs)

@@ -1,0 +1,108 @@
+-- Who is accepted was served on a sound table: its running thread and a thread that is created are on the board, and have accounts. What code 0
+-- is as the machine reads it. Assumes nothing.
+use mathlib.Core.Bool.{true, false, _&&_, _||_}
+use mathlib.Core.Path.{_≡_, refl, sym, ap, _∙_}
+use mathlib.Core.List.{List}
+use Prim.Native.Nat.{ℕ, zero, suc, _<_}
+use native.Mathlib.Omega.{arith}
+use lib.Dec.{eqb, leb}
+use borrow.Author.Tests.{leb-false, ne-eqb}
+use lib.IntN.{ℤ, pos, negsuc}
+use lib.ListN.{length}
+use mir.Syntax.{w32}
+use mir.Val.{SFits, toZ, ofZ}
+use mir.ValLaws.{toZ-ofZ}
+use Rattle.rules.specs.Board.{Board}
+use Rattle.rules.specs.State.{State, at}
+use Rattle.rules.specs.Table.{decode}
+use Rattle.rules.specs.Answers.{codeOf, areaLength}
+use Rattle.rules.specs.Requests.{decodeRequest}
+use Rattle.rules.specs.Sound.{Sound}
+use Rattle.rules.specs.Test.{soundTable}
+use Rattle.rules.specs.Waiting.{Step}
+use Rattle.rules.specs.Threads.{badPriority, badTicks, doCreate}
+use Rattle.rules.specs.Steps.{step}
+use Rattle.rules.specs.Door.{serveDecoded, door}
+use Rattle.rules.specs.declared.Request.{Request}
+use Rattle.rules.specs.declared.Request.the-variants.{
+  Yield,
+  Create,
+  Delete,
+  Set,
+  Suspend,
+  Resume,
+  Delay,
+  Cancel,
+  Send,
+  SendFromInterrupt,
+  Receive,
+  Make,
+  Drop,
+  Pend,
+  Abort,
+  Post,
+  PostFromInterrupt,
+  Lock,
+  Unlock,
+  Tick,
+  Outcome,
+}
+use Rattle.rules.specs.declared.Decoded.the-variants.{Asked}
+use Rattle.laws.proofs.Split.{is, isnt, test, clash, and-true, or-false, if-case}
+use Rattle.laws.proofs.Lines.{ready-used}
+use Rattle.laws.proofs.Members.{used-range}
+use Rattle.laws.proofs.Tested.{tested-table}
+use Rattle.layout.proofs.RoundTrip.{on-decode}
+use Rattle.fairness.specs.Run.{deedOf, isZero}
+use Rattle.accounts.specs.Accounts.{Finds}
+
+-- THE CODE, as a number of 32 bits
+
+pub code-zero : (z : ℤ) → SFits w32 z → ofZ w32 z ≡ 0 → isZero z ≡ true
+code-zero z f e = ap isZero (sym (toZ-ofZ w32 z f) ∙ ap (toZ w32) e)
+
+pub code-other : (z : ℤ) → (ofZ w32 z ≡ 0 → ⊥) → isZero z ≡ false
+code-other (pos zero) h = absurd (h refl)
+code-other (pos (suc n)) h = ne-eqb (suc n) 0 (λ e. omega arith)
+code-other (negsuc n) h = refl
+
+-- WHO IS FOUND
+
+create-finds : (s : State) (i p n : ℕ) → isZero (codeOf (doCreate s i p n .answer)) ≡ true → i < length (s .threads)
+unfolding doCreate
+create-finds s i p n =
+    if-case (λ (r : Step). isZero (codeOf (r .answer)) ≡ true → i < length (s .threads)) (badPriority p) (λ e z. absurd (clash z refl)) (λ e.
+    if-case (λ (r : Step). isZero (codeOf (r .answer)) ≡ true → i < length (s .threads)) (badTicks n) (λ e z. absurd (clash z refl)) (λ e.
+    if-case (λ (r : Step). isZero (codeOf (r .answer)) ≡ true → i < length (s .threads)) (leb (length (s .threads)) i || at (s .threads) i .used) (λ e z. absurd (clash z refl)) (λ e z.
+    leb-false (length (s .threads)) i (or-false (leb (length (s .threads)) i) (at (s .threads) i .used) e .0))))
+
+step-finds : (s : State) (q : Request) → Sound s → isZero (codeOf (step s q .answer)) ≡ true → Finds (length (s .threads)) (deedOf q) (s .running)
+unfolding step
+step-finds s (Create i p n) σ z = create-finds s i p n z
+step-finds s Tick σ z = used-range (s .threads) (s .running) (ready-used (at (s .threads) (s .running)) (σ .runs))
+step-finds s Yield σ z = tt
+step-finds s (Delete i) σ z = tt
+step-finds s (Set i p n) σ z = tt
+step-finds s (Suspend i) σ z = tt
+step-finds s (Resume i) σ z = tt
+step-finds s (Delay n) σ z = tt
+step-finds s (Cancel i) σ z = tt
+step-finds s (Send i n x) σ z = tt
+step-finds s (SendFromInterrupt i x) σ z = tt
+step-finds s (Receive n) σ z = tt
+step-finds s (Make k n) σ z = tt
+step-finds s (Drop k) σ z = tt
+step-finds s (Pend k n) σ z = tt
+step-finds s (Abort i) σ z = tt
+step-finds s (Post k n) σ z = tt
+step-finds s (PostFromInterrupt k n) σ z = tt
+step-finds s Lock σ z = tt
+step-finds s Unlock σ z = tt
+step-finds s (Outcome i) σ z = tt
+
+pub finds : (b : Board) (t r a : List ℕ) (q : Request) → decodeRequest r ≡ Asked q → isZero (door b t r a .code) ≡ true → Finds (b .threads) (deedOf q) (decode b t .running)
+unfolding door serveDecoded
+finds b t r a q e z = elim (test (eqb (length a) areaLength && soundTable b t)) [
+  | is k ↦ rw (on-decode b t .threads) at (step-finds (decode b t) q (tested-table b t .0 (and-true (eqb (length a) areaLength) (soundTable b t) k .1) .state) (rw (k, e) at z))
+  | isnt k ↦ absurd (clash (rw k at z) refl)
+]

@@ -1,0 +1,4 @@
+-- Laws of accounts.
+pub mod Accounts
+pub mod Accepted
+pub mod Served

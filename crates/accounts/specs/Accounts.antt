@@ -1,0 +1,57 @@
+-- The accounts of all threads, by number, and what serving some records makes of them.
+use mathlib.Core.List.{List, [], _∷_, map}
+use Prim.Native.Nat.{ℕ, suc, _+_, _-_, _*_, _/_, _≤_, _<_, min}
+use lib.Dec.{eqb}
+use lib.ListN.{getD, set}
+use Rattle.rules.specs.Basic.{if_then_else_}
+use Rattle.rules.specs.Board.{printer, mostTicks}
+use Rattle.rules.specs.Requests.{requestLength}
+use Rattle.rules.specs.Door.{Handed, door}
+use Rattle.rules.specs.Trace.{records, cleanly}
+use Rattle.fairness.specs.Run.{Event, Deed, tick, yield, other, change, create}
+use Rattle.fairness.specs.Doors.{runOf}
+use Rattle.lanes.specs.Lag.{accountFrom}
+use Rattle.lanes.specs.Report.{mostRecords, mostCharges}
+
+-- what a thread has; the first of the accounts is thread 0's
+abbrev pub of : List ℕ → ℕ → ℕ
+of accounts i = getD accounts i 0
+
+-- the accounts after a run; the first of them is thread i's
+unfoldable pub accountsFrom : ℕ → List ℕ → List Event → List ℕ
+accountsFrom i [] run = []
+accountsFrom i (n ∷ ns) run = accountFrom i n run ∷ accountsFrom (suc i) ns run
+
+-- what an accepted deed makes of them, where thread `ran` was running and the lock count was `lock`
+abbrev pub entered : List ℕ → Deed → ℕ → ℕ → List ℕ
+entered accounts tick ran lock = if eqb lock 0 then set accounts ran (of accounts ran + 1) else accounts
+entered accounts (create i) ran lock = set accounts i 0
+entered accounts yield ran lock = accounts
+entered accounts (change i) ran lock = accounts
+entered accounts other ran lock = accounts
+
+-- SOME RECORDS
+
+-- the first k records of some bytes, each handed with an area of 8 bytes
+abbrev pub handed : ℕ → List ℕ → List Handed
+handed k bytes = map cleanly (records k bytes)
+
+-- their events
+abbrev pub eventsOf : List ℕ → ℕ → List ℕ → List Event
+eventsOf t k bytes = runOf printer (door printer) t (handed k bytes)
+
+-- how many of n bytes' records are served after `number` others: "If whole records are left after 1,000,000", they are not
+abbrev pub servable : ℕ → ℕ → ℕ
+servable number n = min (n / requestLength) (mostRecords - number)
+
+-- so many more records leave every account within the most that the report reckons with
+abbrev pub Within : ℕ → List ℕ → Type 0
+Within more accounts = (i : ℕ) → of accounts i + mostTicks * more ≤ mostCharges
+
+-- a deed finds the account that it changes among n
+abbrev pub Finds : ℕ → Deed → ℕ → Type 0
+Finds n tick ran = ran < n
+Finds n (create i) ran = i < n
+Finds n yield ran = Unit {0}
+Finds n (change i) ran = Unit {0}
+Finds n other ran = Unit {0}

@@ -1,0 +1,2 @@
+-- The accounts as they are kept while records are served.
+pub mod Accounts

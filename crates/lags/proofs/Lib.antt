@@ -1,0 +1,3 @@
+-- Laws of the report's figures and lines.
+pub mod Difference
+pub mod Turned

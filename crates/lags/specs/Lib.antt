@@ -1,0 +1,2 @@
+-- The room that the report's lines take.
+pub mod Room

@@ -1,0 +1,36 @@
+-- The report's lines go by the charges of the board's threads alone. Assumes nothing.
+use mathlib.Core.Path.{_≡_, refl, ap, _∙_}
+use mathlib.Core.List.{List, [], _∷_, _++_}
+use Prim.Native.Nat.{ℕ, suc, _+_, _*_, _<_}
+use native.Mathlib.Omega.{arith}
+use lib.IntN.{subℕ, pos}
+use lib.ListN.{length}
+use Rattle.rules.specs.Basic.{if_then_else_}
+use Rattle.rules.specs.State.{State, at, isReady}
+use Rattle.rules.specs.Lines.{ready, inLine}
+use Rattle.rules.specs.declared.Thread.{Thread}
+use Rattle.fairness.specs.Run.{sumTurns}
+use Rattle.lanes.specs.Lag.{sumOver, lagOf, lag}
+use Rattle.lanes.specs.Report.{laneLine, laneLines}
+
+module _ (f g : ℕ → ℕ) where
+  sum-as : (p i : ℕ) (ts : List Thread) → ((j : ℕ) → j < i + length ts → f j ≡ g j) → sumOver p f i ts ≡ sumOver p g i ts
+  unfolding sumOver
+  sum-as p i [] h = refl
+  sum-as p i (t ∷ ts) h = λ k. (if inLine (ready p) t then h i (omega arith) k else 0) + sum-as p (suc i) ts (λ j l. h j (omega arith)) k
+
+  module _ (s : State) (same : (j : ℕ) → j < length (s .threads) → f j ≡ g j) where
+    lag-as : (i : ℕ) → i < length (s .threads) → lag f s i ≡ lag g s i
+    unfolding lag lagOf
+    lag-as i h = λ k.
+        let t = at (s .threads) i in
+        if isReady t
+        then subℕ (same i h k * sumTurns (t .priority) (s .threads)) (t .turn * sum-as (t .priority) 0 (s .threads) (λ j l. same j (omega arith)) k)
+        else pos 0
+
+    pub lines-as : (i : ℕ) (ts : List Thread) → i + length ts ≡ length (s .threads) → laneLines f s i ts ≡ laneLines g s i ts
+    unfolding laneLines
+    lines-as i [] e = refl
+    lines-as i (t ∷ ts) e = λ k.
+        (if t .used then laneLine i (same i (omega arith) k) (lag-as i (omega arith) k) else [])
+        ++ lines-as (suc i) ts (omega arith) k

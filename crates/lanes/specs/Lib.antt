@@ -1,0 +1,4 @@
+-- What the lane report says of a run, and of an input.
+pub mod Lag
+pub mod Report
+pub mod Example

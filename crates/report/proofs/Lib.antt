@@ -1,0 +1,2 @@
+-- Why the report program goes on as its input does.
+pub mod Turns
