@@ -7,7 +7,7 @@ stop() {
   printf 'hosts/launcher/check.sh: %s\n' "$*" >&2
   exit 1
 }
-programs=(trace write list) # a file goes through each
+programs=(trace report write list) # a file goes through each
 case $# in 1 | 2) ;; *) stop "one or two arguments are accepted: the folder of the programs (target/bin after 'rt check' of ${programs[*]}), and a launcher to try" ;; esac
 for program in "${programs[@]}"; do
   [ -f "$1/$program" ] || stop "there is no $1/$program: run 'rt check $program' at the top of the repository"
@@ -30,8 +30,7 @@ export TRIED REAL PROGRAMS="$room/programs"
 example=$top/examples/two-lanes.trace
 
 # What the tests give to each program, and what the program by itself makes of that.
-cp "$example" "$room/given/trace"
-cp "$example" "$room/given/list"
+for program in trace report list; do cp "$example" "$room/given/$program"; done
 "$top/hosts/x86_64" run "$PROGRAMS/list" <"$example" >"$room/given/write"
 for program in "${programs[@]}"; do
   "$top/hosts/x86_64" run "$PROGRAMS/$program" <"$room/given/$program" >"$room/right/$program"
@@ -153,6 +152,17 @@ on_terminal() {
   timeout 20 script -qec "$1" /dev/null >"$TRIED/shown" 2>&1
 }
 
+# PID PROGRAM: a child of the process runs the program.
+runs() {
+  local child children=()
+  # the line has no line feed, so that read fails at its end
+  { read -r -a children <"/proc/$1/task/$1/children" || true; } 2>/dev/null
+  for child in "${children[@]}"; do
+    ! grep -qsaF "target/bin/$2" "/proc/$child/cmdline" || return 0
+  done
+  return 1
+}
+
 # PID..: none of these is at work.
 gone() {
   local pid stat
@@ -167,6 +177,8 @@ gone() {
 . "$top/hosts/launcher/tests/build.sh"
 # shellcheck source=hosts/launcher/tests/streams.sh
 . "$top/hosts/launcher/tests/streams.sh"
+# shellcheck source=hosts/launcher/tests/report.sh
+. "$top/hosts/launcher/tests/report.sh"
 # shellcheck source=hosts/launcher/tests/listing.sh
 . "$top/hosts/launcher/tests/listing.sh"
 # shellcheck source=hosts/launcher/tests/words.sh
@@ -199,6 +211,7 @@ tested() {
 }
 tested build.sh
 for program in "${programs[@]}"; do tested streams.sh "$program"; done
+tested report.sh
 tested listing.sh
 tested words.sh
 printf 'hosts/launcher: %d tests passed, %d skipped, %d failed\n' "$passed" "$skipped" "$failed"

@@ -93,10 +93,10 @@ fn put_lane(table: &[u8], accounts: &[u64], i: usize, out: &mut [u8], to: usize)
     if !th.used {
         return to;
     }
-    let behind = lag_of(table, accounts, i);
+    let own = lag_of(table, accounts, i);
     let a = text::put_field(out, to, i as u64, b' ');
     let b = text::put_field(out, a, accounts[i], b' ');
-    let c = text::put_signed(out, b, behind);
+    let c = text::put_signed(out, b, own);
     text::put_byte(out, c, b'\n')
 }
 

@@ -52,7 +52,7 @@ use Rattle.preservation.proofs.Frame.{on-kept}
 use Rattle.fairness.proofs.Rank.{Fare, turns, same-turns}
 use Rattle.fairness.proofs.View.{view, view-in}
 use Rattle.fairness.proofs.Fair.{same-set, sum-turns, run-append, Ran, ran, event-sound, fairness}
-use Rattle.lanes.specs.Lag.{makes, creates, accountFrom, account, sumOver, lagOf, lag, NoLag}
+use Rattle.lanes.specs.Lag.{makes, creates, accountOn, accountFrom, account, sumOver, lagOf, lag, NoLag}
 
 -- NO THREAD OF THE RANK IS CREATED
 
@@ -104,17 +104,16 @@ account-append i n [] ys = refl
 account-append i n (x ∷ xs) ys = account-append i _ xs ys
 
 -- a run adds at most one tick for each event
+on-most : (i n : ℕ) (e : Event) → accountOn i n e ≤ n + 1
+on-most i n e = elim (test (creates i e)) [
+  | is c ↦ rw c (omega arith)
+  | isnt c ↦ elim (test (chargedTo i e)) [ is d ↦ rw (c, d) (omega arith) | isnt d ↦ rw (c, d) (omega arith) ]
+]
+
 pub account-most : (i n : ℕ) (es : List Event) → accountFrom i n es ≤ n + length es
 unfolding accountFrom
 account-most i n [] = omega arith
-account-most i n (e ∷ es) = elim (test (creates i e)) [
-  | is c ↦ rw c (omega (arith, account-most i 0 es))
-  | isnt c ↦ rw c (omega (arith, account-most i (n + bit (chargedTo i e)) es, bit-most (chargedTo i e)))
-]
-  where
-    bit-most : (b : Bool) → bit b ≤ 1
-    bit-most true = omega arith
-    bit-most false = omega arith
+account-most i n (e ∷ es) = omega (arith, account-most i (accountOn i n e) es, on-most i n e)
 
 -- over a steady run, a thread of the rank is charged what is counted
 account-steady : (p i n : ℕ) (s : State) (es : List Event) → readyAt p s i ≡ true → RunFrom s es → all (steady p) es ≡ true

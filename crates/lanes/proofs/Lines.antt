@@ -1,15 +1,13 @@
 -- The report's lines go by the charges of the board's threads alone. Assumes nothing.
-use mathlib.Core.Path.{_≡_, refl, ap, _∙_}
+use mathlib.Core.Path.{_≡_, refl}
 use mathlib.Core.List.{List, [], _∷_, _++_}
-use Prim.Native.Nat.{ℕ, suc, _+_, _*_, _<_}
+use Prim.Native.Nat.{ℕ, suc, _+_, _<_}
 use native.Mathlib.Omega.{arith}
-use lib.IntN.{subℕ, pos}
 use lib.ListN.{length}
 use Rattle.rules.specs.Basic.{if_then_else_}
-use Rattle.rules.specs.State.{State, at, isReady}
+use Rattle.rules.specs.State.{State, at}
 use Rattle.rules.specs.Lines.{ready, inLine}
 use Rattle.rules.specs.declared.Thread.{Thread}
-use Rattle.fairness.specs.Run.{sumTurns}
 use Rattle.lanes.specs.Lag.{sumOver, lagOf, lag}
 use Rattle.lanes.specs.Report.{laneLine, laneLines}
 
@@ -22,11 +20,7 @@ module _ (f g : ℕ → ℕ) where
   module _ (s : State) (same : (j : ℕ) → j < length (s .threads) → f j ≡ g j) where
     lag-as : (i : ℕ) → i < length (s .threads) → lag f s i ≡ lag g s i
     unfolding lag lagOf
-    lag-as i h = λ k.
-        let t = at (s .threads) i in
-        if isReady t
-        then subℕ (same i h k * sumTurns (t .priority) (s .threads)) (t .turn * sum-as (t .priority) 0 (s .threads) (λ j l. same j (omega arith)) k)
-        else pos 0
+    lag-as i h = let p = at (s .threads) i .priority in rw (same i h, sum-as p 0 (s .threads) (λ j l. same j (omega arith)))
 
     pub lines-as : (i : ℕ) (ts : List Thread) → i + length ts ≡ length (s .threads) → laneLines f s i ts ≡ laneLines g s i ts
     unfolding laneLines

@@ -30,7 +30,7 @@ mostCharges = mostTicks * mostRecords
 
 -- "its number, the ticks charged to it since its creation (Init: since the start), and its lag, in decimal with single spaces"
 abbrev pub laneLine : ℕ → ℕ → ℤ → List ℕ
-laneLine i charged behind = decimal i ++ ascii " " ++ decimal charged ++ ascii " " ++ signed behind ++ ascii "\n"
+laneLine i n z = decimal i ++ ascii " " ++ decimal n ++ ascii " " ++ signed z ++ ascii "\n"
 
 -- "a line for each thread in use at the end"
 abbrev pub laneOf : (ℕ → ℕ) → State → ℕ → Thread → List ℕ

@@ -50,10 +50,10 @@ pub record NoLags : Type 0 where
 pub record Lane : Type 0 where
   pub thread : ℕ
   pub charged : ℕ
-  pub behind : ℤ
+  pub lags : ℤ
 
 abbrev lane : ℕ → ℕ → ℤ → Lane
-lane i n z = record { thread = i; charged = n; behind = z }
+lane i n z = record { thread = i; charged = n; lags = z }
 
 pub record Reckoned : Type 0 where
   -- Is the set the same after each step from the point on? Is it undisturbed? Were its threads charged nothing before?
@@ -110,7 +110,7 @@ pub record LagsReckoned : Type 0 where
   pub oneRound : reckoned (unequal (ticks 5)) ≡ gives true true true true (lane 1 2 (pos 0) ∷ lane 2 3 (pos 0) ∷ [])
   pub threeRounds : reckoned (unequal (ticks 15)) ≡ gives true true true true (lane 1 6 (pos 0) ∷ lane 2 9 (pos 0) ∷ [])
   pub equalRounds : reckoned (equal (ticks 12)) ≡ gives true true true true (lane 1 6 (pos 0) ∷ lane 2 6 (pos 0) ∷ [])
-  -- half a round: thread 1 is 4 quarters of a tick ahead, and thread 2 as much behind
+  -- half a round: thread 1 is 4 quarters of a tick ahead, which is one tick, and thread 2 as much behind
   pub halfRound : reckoned (equal (ticks 2)) ≡ gives true true true false (lane 1 2 (pos 4) ∷ lane 2 0 (negsuc 3) ∷ [])
   -- thread 1 is charged a tick before thread 2 is created
   pub chargedBefore : reckoned (record { before = Create 1 5 2 ∷ Tick ∷ Create 2 5 3 ∷ []; after = ticks 5 }) ≡ gives true true false true (lane 1 3 (pos 3) ∷ lane 2 3 (negsuc 2) ∷ [])

@@ -1,5 +1,5 @@
 #!/usr/bin/env bash
-# What goes through a program and how it ends: each test is tried with trace, with write and with list, which is its first argument.
+# What goes through a program and how it ends: each test is tried with trace, report, write and list, which is its first argument.
 # hosts/launcher/check.sh has what these tests use.
 # shellcheck disable=SC2154
 
@@ -34,11 +34,15 @@ a_file_may_have_spaces_in_its_name() {
   cmp "$room/right/$1" "$TRIED/out"
 }
 
+# of a report there is Init's line
 empty_input_prints_nothing() {
   built "$1"
   ran "$1" </dev/null
   ended 0 0
-  [ ! -s "$TRIED/out" ]
+  case $1 in
+  report) is "0 0 0" "$TRIED/out" ;;
+  *) [ ! -s "$TRIED/out" ] ;;
+  esac
 }
 
 what_is_no_file_is_refused_before_a_build() {
@@ -52,6 +56,21 @@ what_is_no_file_is_refused_before_a_build() {
   ran "$1" "$room/given/$1" "$room/given/$1"
   ended 1 1
   has "$1 takes one FILE at the most, and not 2: $room/given/$1" "$TRIED/err"
+  [ ! -s "$TRIED/out" ]
+  builds 0
+}
+
+a_file_that_may_not_be_read_is_refused_before_a_build() {
+  anew
+  # root may read everything
+  local as=()
+  [ "$(id -u)" -ne 0 ] || as=(setpriv --reuid=65534 --regid=65534 --clear-groups)
+  cp "$room/given/$1" "$TRIED/secret"
+  chmod 0 "$TRIED/secret"
+  status=0
+  timeout 10 "${as[@]}" ./speltmallet "$1" "$TRIED/secret" >"$TRIED/out" 2>"$TRIED/err" || status=$?
+  ended 1 1
+  has "the file '$TRIED/secret' can't be read" "$TRIED/err"
   [ ! -s "$TRIED/out" ]
   builds 0
 }
@@ -97,7 +116,8 @@ only_the_programs_own_lines_are_failures() {
   built "$1"
   local line=0 record=0
   case $1 in write) line=1 ;; list) record=1 ;; esac
-  noisy "$1" 0 "some noise" "another: a failure" "no $1: a failure" "bad line" "bad line 7 of 9" "a bad line 7" "bad record" "bad record 7 of 9" "a bad record 7" ""
+  noisy "$1" 0 "some noise" "another: a failure" "no $1: a failure" "bad line" "bad line 7 of 9" "a bad line 7" "bad record" "bad record 7 of 9" "a bad record 7" \
+    stopped ""
   noisy "$1" 1 "some noise" "$1: a failure" "more noise"
   noisy "$1" "$line" "bad line 7"
   noisy "$1" "$record" "some noise" "bad record 123456789012"
@@ -111,6 +131,7 @@ input_that_cannot_be_read_is_said() {
   ran "$1" <hosts
   ended 1 1
   is "$1: standard input can't be read" "$TRIED/err"
+  [ ! -s "$TRIED/out" ]
 }
 
 a_full_disk_is_said() {
@@ -121,16 +142,28 @@ a_full_disk_is_said() {
   is "$1: standard output can't be written" "$TRIED/err"
 }
 
-# PROGRAM: input for it that has no end.
+# PROGRAM: input for it that has no end; of report, which prints when the input ends, some that ends when nobody reads what it prints.
 endless() {
-  case $1 in write) yes 19 ;; *) cat /dev/zero ;; esac
+  case $1 in
+  report) until_so test -e "$TRIED/closed" >&2 && head -c 12 "$room/given/$1" ;;
+  write) yes 19 ;;
+  *) cat /dev/zero ;;
+  esac
+}
+
+# PROGRAM: reads some of what it prints, and closes the pipe; that of report at once.
+leaves() {
+  case $1 in
+  report) exec <&- && : >"$TRIED/closed" ;;
+  *) head -c 2 >"$TRIED/out" ;;
+  esac
 }
 
 a_closed_pipe_is_quiet() {
   built "$1"
   : >"$TRIED/err"
   set +e
-  endless "$1" | timeout 10 env --default-signal=PIPE ./speltmallet "$1" 2>"$TRIED/err" | head -c 2 >"$TRIED/out"
+  endless "$1" | timeout 10 env --default-signal=PIPE ./speltmallet "$1" 2>"$TRIED/err" | leaves "$1"
   status=${PIPESTATUS[1]}
   set -e
   ended 141 0
@@ -139,7 +172,7 @@ a_closed_pipe_is_quiet() {
 a_closed_pipe_is_said_where_its_signal_is_ignored() {
   built "$1"
   set +e
-  endless "$1" | timeout 10 env --ignore-signal=PIPE ./speltmallet "$1" 2>"$TRIED/err" | head -c 2 >"$TRIED/out"
+  endless "$1" | timeout 10 env --ignore-signal=PIPE ./speltmallet "$1" 2>"$TRIED/err" | leaves "$1"
   status=${PIPESTATUS[1]}
   set -e
   ended 1 1
@@ -147,7 +180,7 @@ a_closed_pipe_is_said_where_its_signal_is_ignored() {
 }
 
 # PROGRAM: starts it on a pipe that stays open and gives it a single record or line; its process is then $pid, and what comes of the
-# record or line is out.
+# record or line is out. Of report nothing comes yet: it is at work.
 answered() {
   local given=(head -c 12) right=(head -n 1)
   [ "$1" != write ] || given=(head -n 1) right=(head -c 12)
@@ -156,16 +189,24 @@ answered() {
   pid=$!
   exec 8>"$TRIED/pipe"
   "${given[@]}" "$room/given/$1" >&8
+  if [ "$1" = report ]; then
+    until_so runs "$pid" report
+    sleep 0.3
+    [ ! -s "$TRIED/out" ] || { echo "before the input ends:" && cat "$TRIED/out" && return 1; }
+    return
+  fi
   until_so test -s "$TRIED/out"
   "${right[@]}" "$room/right/$1" | cmp - "$TRIED/out"
 }
 
+# a report comes when the input ends
 output_comes_as_input_comes() {
   built "$1"
   answered "$1"
   exec 8>&-
   until_so gone "$pid"
   wait "$pid"
+  [ "$1" != report ] || is "0 0 0" "$TRIED/out"
 }
 
 a_signal_ends_the_program_too() {

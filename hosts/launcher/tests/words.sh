@@ -2,9 +2,13 @@
 # The words that no file goes through, and the help of all. hosts/launcher/check.sh has what these tests use.
 # shellcheck disable=SC2154
 
+every=(trace report write list test bench install) # and help
+
+# also by the messages that name what is accepted
 every_word_is_explained() {
   anew
-  for word in trace write list test bench install; do
+  printf '%s\n' "${every[@]}" help | sort | diff - <(cd hosts/launcher/help && printf '%s\n' *)
+  for word in "${every[@]}"; do
     for asked in "help $word" "$word --help" "$word -h"; do
       # shellcheck disable=SC2086
       ran $asked
@@ -15,10 +19,15 @@ every_word_is_explained() {
   done
   ran help
   ended 0 0
-  for word in trace write list test bench install help; do has "  ./speltmallet $word " "$TRIED/out"; done
-  ran help nothing
-  ended 1 1
-  has "accepted are" "$TRIED/err"
+  for word in "${every[@]}" help; do like "^  \./speltmallet $word( \[[^]]+\])?  +[a-z]" "$TRIED/out"; done
+  for asked in "help nothing" nothing; do
+    # shellcheck disable=SC2086
+    ran $asked
+    ended 1 1
+    has "accepted are" "$TRIED/err"
+    for word in "${every[@]}" help; do like "[ ,]$word(,| and|$)" "$TRIED/err"; done
+    [ ! -s "$TRIED/out" ]
+  done
   builds 0
 }
 

@@ -82,7 +82,7 @@ impl<'a> Words<'a> {
         Ok(Rule::Rules)
     }
 
-    /// A list of requests: `[]`, `REQUEST ∷ LIST`, `LIST ++ LIST`, `cut`, or one of them in brackets.
+    /// A list of requests: `[]`, `REQUEST ∷ LIST`, `LIST ++ LIST`, `setUp`, `cut`, or one of them in brackets.
     pub fn list(&mut self) -> Result<Vec<Record>, String> {
         let mut list = match self.peek() {
             "[]" => {
@@ -95,12 +95,12 @@ impl<'a> Words<'a> {
                 self.expect(")")?;
                 inner
             }
-            "cut" => {
-                self.left.pop_front();
-                let mut words = self.source.behind("cut", "cut =")?;
-                let cut = words.list()?;
+            "setUp" | "cut" => {
+                let name = self.next()?;
+                let mut words = self.source.behind(&name, &format!("{name} ="))?;
+                let named = words.list()?;
                 words.end()?;
-                cut
+                named
             }
             _ => {
                 let request = self.request()?;

@@ -130,3 +130,77 @@ fn a_whole_roll_at_once() {
     let heading = "A whole roll at once";
     shows("examples/README.md", heading, "examples/roll.listing");
 }
+
+/// The report of these records, of which nothing is said on standard error.
+fn report(records: &[u8]) -> String {
+    let output = Program::Report.fed(vec![records.to_vec()]);
+    assert!(output.stderr.is_empty());
+    String::from_utf8(output.stdout).expect("a report is text")
+}
+
+/// A column of the table under a heading of the page is this report.
+fn reports(path: &str, heading: &str, number: usize, report: &str) {
+    let page = page(path);
+    let shown = column(section(&page, heading), number);
+    assert_eq!(shown, report, "{path} shows another report");
+}
+
+/// The number behind these words of a text.
+fn number_behind(text: &str, words: &str) -> usize {
+    let (_, rest) = text.split_once(words).expect("the words are there");
+    let number = rest.split_whitespace().next();
+    let number = number.and_then(|number| number.parse().ok());
+    number.expect("a number")
+}
+
+#[test]
+fn the_report_of_the_two_lane_printers_event() {
+    let (examples, heading) = ("examples/README.md", "The report of the recording");
+    let records = fs::read(top().join("examples/two-lanes.trace")).expect("the example");
+    reports("README.md", "The lane report", 0, &report(&records));
+    reports(examples, heading, 0, &report(&records));
+    let first = number_behind(section(&page(examples), heading), "head -n ");
+    let first = report(&records[..first * RECORD]);
+    reports(examples, heading, 1, &first);
+}
+
+/// The lanes never wait, and nobody yields or is deleted, set or suspended: so from record 4 on they are the ready threads of their rank,
+/// on the terms by which the pages say that the lags have to be 0.
+#[test]
+fn the_lanes_of_the_event_stay_ready() {
+    let path = top().join("examples/two-lanes.trace");
+    let records = fs::read(&path).expect("the example");
+    let printed = Program::Trace.fed_file(&path).stdout;
+    let printed = String::from_utf8_lossy(&printed);
+    let mut running = "0";
+    for (record, line) in records.chunks(RECORD).zip(printed.lines()) {
+        let unsettling = [op::YIELD, op::DELETE, op::SET, op::SUSPEND];
+        assert!(!unsettling.contains(&record[0]), "{line}");
+        let answer: Vec<&str> = line.split(' ').collect();
+        let waits = answer[1] == "1";
+        assert!(!(waits && ["1", "2"].contains(&running)), "{line}");
+        running = answer[3];
+    }
+}
+
+/// Each line of the printer's own count, as `1 left lane  charged 128 ticks`, has the number and the ticks of the report's.
+#[test]
+fn the_report_counts_the_ticks_that_the_printer_counted() {
+    let records = fs::read(top().join("examples/two-lanes.trace")).expect("the example");
+    let report = report(&records);
+    let shares = page("examples/two-lanes.shares");
+    let counted = shares.lines().filter(|line| line.contains(" charged "));
+    let counted = counted.map(|line| (number_behind(line, ""), number_behind(line, " charged ")));
+    let reported = report
+        .lines()
+        .map(|line| (number_behind(line, ""), number_behind(line, " ")));
+    assert_eq!(reported.collect::<Vec<_>>(), counted.collect::<Vec<_>>());
+}
+
+#[test]
+fn the_report_after_whole_rounds() {
+    let listing = page("examples/rounds.listing").into_bytes();
+    let records = Program::Write.fed(vec![listing]).stdout;
+    let heading = "Whole rounds, and the rule of the incident";
+    reports("examples/README.md", heading, 0, &report(&records));
+}

@@ -16,16 +16,16 @@ due : (c : tie.Start) → c .args .turn * c .args .all ≤ most
 due c = due-most (c .args .turn) (c .args .all) (c .pre .1 .0) (c .pre .1 .1)
 
 mul-result : tie.Need-mul-result
-mul-result c = record { fits = omega (arith, ahead c) }
+mul-result c = record { fits = omega (arith, ahead c, due c) }
 
 cast-result : tie.Need-cast-result
-cast-result c = record { sfits = omega (arith, ahead c) }
+cast-result c = record { sfits = omega (arith, ahead c, due c) }
 
 mul-result-2 : tie.Need-mul-result-2
-mul-result-2 c = record { fits = omega (arith, due c) }
+mul-result-2 c = record { fits = omega (arith, ahead c, due c) }
 
 cast-result-2 : tie.Need-cast-result-2
-cast-result-2 c = record { sfits = omega (arith, due c) }
+cast-result-2 c = record { sfits = omega (arith, ahead c, due c) }
 
 sub-result : tie.Need-sub-result
 sub-result c = rw (exact _ _ (ahead c) (due c)) (fits _ _ (ahead c) (due c))

@@ -79,8 +79,8 @@ returns-2 c =
     let charged = with-field (decimal (of (now (start .args .accounts)) i)) (32 ∷ []) (c .before .before .before .before .before .before .before .before .before .before .before .before .before .before .before .put-field .ensures .0) (c .before .before .before .before .before .before .before .before .before .before .put-field2 .ensures .0) in
     let same = toZ-ofZ w64 (c .before .before .before .before .before .before .before .before .before .before .before .before .before .before .before .before .before .lag-of .result) (record { sfits = c .before .before .before .before .before .before .before .before .before .before .before .before .before .before .before .before .before .lag-of .ok }) in
     let digits : length (signed (read (c .before .before .before .before .before .before .before .before .before .before .before .before .before .before .before .before .before .lag-of .result))) ≤ 19 = rw same (c .before .before .before .before .before .before .before .before .before .before .before .before .before .before .before .before .before .lag-of .ensures .1) in
-    let behind = rw (same, c .before .before .before .before .before .before .before .before .before .before .before .before .before .before .before .before .before .lag-of .ensures .0) at (c .before .before .before .before .before .before .put-signed .ensures) in (
-      rw used (charged followed-by behind followed-by c .before .before .put-byte .ensures),
+    let own = rw (same, c .before .before .before .before .before .before .before .before .before .before .before .before .before .before .before .before .before .lag-of .ensures .0) at (c .before .before .before .before .before .before .put-signed .ensures) in (
+      rw used (charged followed-by own followed-by c .before .before .put-byte .ensures),
       omega (arith, room start, c .before .before .before .before .before .before .before .before .before .before .before .before .before .before .before .put-field .ensures .1, c .before .before .before .before .before .before .before .before .before .before .put-field2 .ensures .1, digits, c .before .before .before .before .before .before .put-signed .ensures .place, c .before .before .put-byte .ensures .place),
     )
 
