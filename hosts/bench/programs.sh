@@ -8,9 +8,9 @@ stop() {
   printf 'hosts/bench/programs.sh: %s\n' "$*" >&2
   exit 1
 }
-[ $# -eq 2 ] || stop "two arguments are accepted: the folder that has libkernel.a, and the folder of the programs (target/bin after 'rt check' of trace, write and list)"
+[ $# -eq 2 ] || stop "two arguments are accepted: the folder that has libkernel.a, and the folder of the programs (target/bin after 'rt check' of trace, write, list and report)"
 [ -f "$1/libkernel.a" ] || stop "there is no $1/libkernel.a: run 'rt staticlib kernel' at the top of the repository"
-for program in trace write list; do
+for program in trace write list report; do
   [ -f "$2/$program" ] || stop "there is no $2/$program: run 'rt check $program' at the top of the repository"
 done
 archive=$(cd "$1" && pwd)/libkernel.a
@@ -24,6 +24,7 @@ for program in serve ../printer/printer; do
   ../x86_64 cc -O3 -I../../include "$program.c" -o "$room/$name.o"
   ../x86_64 link "$room/$name" "$room/$name.o" "$archive" 2>"$room/said" || stop "$(cat "$room/said")"
 done
+# fewer records than the 1,000,000 after which report stops
 ../x86_64 run "$room/printer" "$room/requests" - 735000 >/dev/null
 ../x86_64 run "$bin/list" <"$room/requests" >"$room/listing"
 ../x86_64 run "$bin/write" <"$room/listing" | cmp - "$room/requests" || stop "the listing of the records is written to other records"
@@ -53,14 +54,15 @@ if ../x86_64 emulated; then
   least=2
   where=', all under the emulator'
 fi
-rows=(trace write list "write, lines of 40 characters" "list, their records")
+rows=(trace write list report "write, lines of 40 characters" "list, their records")
 for round in {1..40}; do
   run door "$room/serve" "$room/requests"
   run trace "$bin/trace" "$room/requests"
   run write "$bin/write" "$room/listing"
   run list "$bin/list" "$room/requests"
-  run "${rows[3]}" "$bin/write" "$room/longest"
-  run "${rows[4]}" "$bin/list" "$room/widest"
+  run report "$bin/report" "$room/requests"
+  run "${rows[4]}" "$bin/write" "$room/longest"
+  run "${rows[5]}" "$bin/list" "$room/widest"
   over=0
   for row in "${rows[@]}"; do within "$row" || over=1; done
   [ "$round" -lt "$least" ] || [ "$over" -ne 0 ] || break

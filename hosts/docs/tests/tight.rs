@@ -174,6 +174,8 @@ fn every_record_of_theorems_is_proved() {
 #[test]
 fn the_crates_that_read_and_write_are_few() {
     let all = reading_and_writing();
-    let expected = ["exchange", "libc", "list", "streams", "trace", "write"];
+    let expected = [
+        "exchange", "libc", "list", "report", "streams", "trace", "write",
+    ];
     assert_eq!(all, BTreeSet::from(expected));
 }

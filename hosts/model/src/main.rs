@@ -1,6 +1,6 @@
 //! The model as a program: `model trace` reads request records from standard input and prints the
-//! trace on standard output, `model list` prints their listing, and `model write` reads a listing
-//! and writes the records.
+//! trace on standard output, `model report` prints the report of their threads, `model list` prints
+//! their listing, and `model write` reads a listing and writes the records.
 
 use std::io::{self, Read, Write};
 use std::process::ExitCode;
@@ -12,10 +12,11 @@ fn main() -> ExitCode {
     let arguments: Vec<String> = std::env::args().skip(1).collect();
     let run = match arguments.iter().map(String::as_str).collect::<Vec<_>>()[..] {
         ["trace"] => trace,
+        ["report"] => report,
         ["write"] => write,
         ["list"] => list,
         _ => {
-            let accepted = "model trace, model write and model list";
+            let accepted = "model trace, model report, model write and model list";
             eprintln!("model: the arguments are {arguments:?}; accepted are: {accepted}");
             return ExitCode::from(2);
         }
@@ -30,6 +31,11 @@ fn main() -> ExitCode {
 
 fn trace() -> Refusal {
     model::trace_to(&mut io::stdin().lock(), &mut io::stdout().lock())?;
+    Ok(None)
+}
+
+fn report() -> Refusal {
+    model::report_to(&mut io::stdin().lock(), &mut io::stdout().lock())?;
     Ok(None)
 }
 

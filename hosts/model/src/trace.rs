@@ -38,7 +38,7 @@ pub fn trace_to(input: &mut dyn Read, out: &mut dyn Write) -> io::Result<()> {
 }
 
 /// Reads until the buffer is full or the input ends; gives the bytes read.
-fn fill(input: &mut dyn Read, buffer: &mut [u8]) -> io::Result<usize> {
+pub(crate) fn fill(input: &mut dyn Read, buffer: &mut [u8]) -> io::Result<usize> {
     let mut length = 0;
     while length < buffer.len() {
         match input.read(&mut buffer[length..]) {

@@ -21,6 +21,7 @@ fn wanted(program: Program, input: &[u8]) -> (Vec<u8>, String) {
             let listed = model::list(input);
             (listed.text, said("bad record", listed.bad))
         }
+        Program::Report => (model::report(input), String::new()),
     }
 }
 

@@ -27,6 +27,8 @@ pub enum Program {
     Write,
     /// Records go in, and their listing comes out.
     List,
+    /// Records go in, and the report of their threads comes out.
+    Report,
 }
 
 /// The top of the repository.
@@ -60,6 +62,7 @@ impl Program {
             Program::Trace => "trace",
             Program::Write => "write",
             Program::List => "list",
+            Program::Report => "report",
         }
     }
 

@@ -2,7 +2,7 @@
 
 use std::io::{BufReader, Read, Write};
 use std::process::{Child, ChildStdin};
-use std::sync::mpsc::{channel, Receiver, RecvTimeoutError};
+use std::sync::mpsc::{channel, Receiver, RecvTimeoutError, TryRecvError};
 use std::thread;
 use std::time::Duration;
 
@@ -11,17 +11,17 @@ use crate::Program;
 /// Whoever waits longer for a program would wait for ever.
 const PATIENCE: Duration = Duration::from_secs(30);
 
-/// A program that runs, with its input open.
+/// A program that runs, with its input open until it is closed.
 pub struct Open {
     child: Child,
-    input: ChildStdin,
+    input: Option<ChildStdin>,
     output: Receiver<u8>,
 }
 
 impl Open {
     pub fn start(program: Program) -> Open {
         let mut child = program.start();
-        let input = child.stdin.take().expect("its standard input");
+        let input = child.stdin.take();
         let printed = child.stdout.take().expect("its standard output");
         let (sender, output) = channel();
         thread::spawn(move || {
@@ -39,7 +39,19 @@ impl Open {
 
     /// Feeds these bytes, and the input stays open.
     pub fn put(&mut self, bytes: &[u8]) {
-        self.input.write_all(bytes).expect("the program reads on");
+        let input = self.input.as_mut().expect("the input is open");
+        input.write_all(bytes).expect("the program reads on");
+    }
+
+    /// The input ends here.
+    pub fn close(&mut self) {
+        self.input = None;
+    }
+
+    /// The program has written nothing more so far, and has not ended.
+    pub fn waits(&mut self) {
+        let more = self.output.try_recv();
+        assert_eq!(more, Err(TryRecvError::Empty), "what comes too early");
     }
 
     /// The next bytes of its output are these.
@@ -49,7 +61,7 @@ impl Open {
         assert_eq!(given, bytes, "what comes while the input is open");
     }
 
-    /// The program ends although its input is open, and has written nothing more but this on standard error.
+    /// The program ends, although its input may be open, and has written nothing more but this on standard error.
     pub fn ends(mut self, said: &str) {
         let more = self.output.recv_timeout(PATIENCE);
         assert_eq!(more, Err(RecvTimeoutError::Disconnected), "the end");

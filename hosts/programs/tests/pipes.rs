@@ -1,8 +1,10 @@
 //! The compiled write and list answer a pipe as it speaks: what comes is put out before more is read, and a bad line or record ends them
-//! although the pipe stays open.
+//! although the pipe stays open. The report waits for the end of the trace, and ends although the pipe stays open where it is stopped.
 
-use model::{list, random_line, random_listing, random_requests, write, Rng, RECORD};
-use programs::{Open, Program::List, Program::Write};
+use model::{list, random_line, random_listing, random_requests, random_trace, write};
+use model::{Rng, MOST_RECORDS, RECORD};
+use programs::{Open, Program::List, Program::Report, Program::Write};
+use std::process::{Command, Stdio};
 use std::thread::sleep;
 use std::time::Duration;
 
@@ -99,4 +101,47 @@ fn a_bad_line_ends_the_writer_although_the_pipe_stays_open() {
         ends_at(3, &[&[line, b"19\n"].concat()]);
         ends_at(3, &[&line[..line.len() - 1], b"\n"]);
     }
+}
+
+/// The report is open after 1,000,000 records and 11 bytes more, and the byte that makes a whole record of them ends it.
+#[test]
+fn a_stopped_report_ends_although_the_pipe_stays_open() {
+    let mut program = Open::start(Report);
+    program.put(&vec![255; MOST_RECORDS * RECORD]);
+    for _ in 0..RECORD {
+        sleep(PAUSE);
+        program.waits();
+        program.put(&[19]);
+    }
+    program.gives(b"stopped\n0 0 0\n");
+    program.ends("");
+}
+
+/// What `yes` puts out are refused records without end. The closed pipe ends it, and not its time.
+#[test]
+fn a_stopped_report_ends_although_more_and_more_comes() {
+    let mut yes = Command::new("timeout");
+    yes.args(["30", "yes"]).stdout(Stdio::piped());
+    let mut feeder = yes.spawn().expect("yes starts");
+    let pipe = feeder.stdout.take().expect("its standard output");
+    let ended = Report.command().stdin(pipe).output();
+    let output = ended.expect("the program ends");
+    assert_eq!(output.stdout, b"stopped\n0 0 0\n");
+    assert_eq!(output.stderr, b"");
+    let status = feeder.wait().expect("yes ends");
+    assert_ne!(status.code(), Some(124), "its time is over");
+}
+
+#[test]
+fn nothing_is_reported_while_the_pipe_is_open() {
+    let trace = random_trace(&mut Rng::new(36), 3_000);
+    let mut program = Open::start(Report);
+    for part in trace.chunks(5_000) {
+        program.put(part);
+        sleep(PAUSE);
+        program.waits();
+    }
+    program.close();
+    program.gives(&model::report(&trace));
+    program.ends("");
 }

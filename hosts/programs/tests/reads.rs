@@ -1,7 +1,7 @@
-//! Where the reads of the compiled write and list end makes no difference: lines and records straddle them, bad ones too.
+//! Where the reads of the compiled write, list and report end makes no difference: lines and records straddle them, bad ones too.
 
-use model::{random_line, random_listing, random_requests, Rng};
-use programs::{hold, hold_each, Program, Program::List, Program::Write, BLOCK};
+use model::{random_line, random_listing, random_requests, random_trace, Rng};
+use programs::{hold, hold_each, Program, Program::List, Program::Report, Program::Write, BLOCK};
 
 /// Sizes of what is fed at once: around a line of 40 characters, around a record, around a block.
 const SIZES: [usize; 12] = [1, 2, 7, 11, 13, 40, 41, 42, 4_096, 12_287, 12_288, 12_289];
@@ -23,10 +23,11 @@ fn cut(rng: &mut Rng, mut input: &[u8], longest: usize) -> Vec<Vec<u8>> {
 }
 
 /// An input for each program, which is good to its end.
-fn good(rng: &mut Rng, units: usize) -> [(Program, Vec<u8>); 2] {
+fn good(rng: &mut Rng, units: usize) -> [(Program, Vec<u8>); 3] {
     [
         (Write, random_listing(rng, units)),
         (List, random_requests(rng, units)),
+        (Report, random_trace(rng, units)),
     ]
 }
 

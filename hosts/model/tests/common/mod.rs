@@ -1,9 +1,10 @@
 //! What the tests share: a board that puts requests to the door and checks what holds for every
-//! answer, the requests by their names, a busy board with a thread in every state, and one on which
-//! threads wait on a semaphore.
+//! answer, the requests by their names, a busy board with a thread in every state, one on which
+//! threads wait on a semaphore, and cases of the report.
 
 #![allow(dead_code)]
 
+pub mod case;
 mod requests;
 
 pub use requests::*;
