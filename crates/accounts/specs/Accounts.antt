@@ -1,8 +1,9 @@
 -- The accounts of all threads, by number, and what serving some records makes of them.
+use mathlib.Core.Path.{_≡_}
 use mathlib.Core.List.{List, [], _∷_, map}
 use Prim.Native.Nat.{ℕ, suc, _+_, _-_, _*_, _/_, _≤_, _<_, min}
 use lib.Dec.{eqb}
-use lib.ListN.{getD, set}
+use lib.ListN.{length, getD, set}
 use Rattle.rules.specs.Basic.{if_then_else_}
 use Rattle.rules.specs.Board.{printer, mostTicks}
 use Rattle.rules.specs.Requests.{requestLength}
@@ -47,6 +48,10 @@ servable number n = min (n / requestLength) (mostRecords - number)
 -- so many more records leave every account within the most that the report reckons with
 abbrev pub Within : ℕ → List ℕ → Type 0
 Within more accounts = (i : ℕ) → of accounts i + mostTicks * more ≤ mostCharges
+
+-- an account for each thread of the board, with room for so many more records
+abbrev pub Kept : ℕ → List ℕ → Type 0
+Kept more accounts = (length accounts ≡ printer .threads) × Within more accounts
 
 -- a deed finds the account that it changes among n
 abbrev pub Finds : ℕ → Deed → ℕ → Type 0

@@ -12,7 +12,7 @@ ghost use Rattle.rules.specs.Trace.{cleanArea, cleanly};
 ghost use Rattle.fairness.specs.Run.{deedOf};
 ghost use Rattle.fairness.specs.Doors.{eventOf};
 ghost use Rattle.lanes.specs.Report.{mostRecords};
-ghost use Rattle.accounts.specs.Accounts.{accountsFrom, entered, handed, eventsOf, servable, Within, Finds};
+ghost use Rattle.accounts.specs.Accounts.{accountsFrom, entered, handed, eventsOf, servable, Within, Kept, Finds};
 use rules::Decoded;
 use rules::Request;
 
@@ -45,7 +45,7 @@ fn enter(accounts: &mut [u64], request: Request, ran: usize, lock: u8)
 // The record that starts at `at` is served, and entered if it is accepted.
 fn serve_record(table: &mut [u8], accounts: &mut [u64], input: &[u8], at: usize)
     requires { ⌜ length (now table) ≡ tableLength printer ⌝ }
-    requires { ⌜ (length (now accounts) ≡ printer .threads) × Within 1 (now accounts) ⌝ }
+    requires { ⌜ Kept 1 (now accounts) ⌝ }
     requires { ⌜ at + requestLength ≤ length (now input) ⌝ }
     ensures table { λ _. ⌜ now (table .exit) ≡ door printer (now (table .entry)) (take requestLength (drop at (now (input .entry)))) cleanArea .table ⌝ }
     ensures accounts { λ _. ⌜ now (accounts .exit) ≡ accountsFrom 0 (now (accounts .entry)) (eventOf printer (now (table .entry)) (cleanly (take requestLength (drop at (now (input .entry))))) (door printer (now (table .entry)) (take requestLength (drop at (now (input .entry)))) cleanArea) ∷ []) ⌝ }
@@ -66,7 +66,7 @@ fn serve_record(table: &mut [u8], accounts: &mut [u64], input: &[u8], at: usize)
 // The first `k` records are served and entered.
 fn serve_records(table: &mut [u8], accounts: &mut [u64], input: &[u8], k: usize)
     requires { ⌜ length (now table) ≡ tableLength printer ⌝ }
-    requires { ⌜ (length (now accounts) ≡ printer .threads) × Within k (now accounts) ⌝ }
+    requires { ⌜ Kept k (now accounts) ⌝ }
     requires { ⌜ k * requestLength ≤ length (now input) ⌝ }
     ensures table { λ _. ⌜ now (table .exit) ≡ tableAfter printer (now (table .entry)) (handed k (now (input .entry))) ⌝ }
     ensures accounts { λ _. ⌜ now (accounts .exit) ≡ accountsFrom 0 (now (accounts .entry)) (eventsOf (now (table .entry)) k (now (input .entry))) ⌝ }
@@ -102,7 +102,7 @@ pub fn serve(
     n: usize,
 ) -> Stood
     requires { ⌜ length (now table) ≡ tableLength printer ⌝ }
-    requires { ⌜ (length (now accounts) ≡ printer .threads) × Within (mostRecords - number) (now accounts) ⌝ }
+    requires { ⌜ Kept (mostRecords - number) (now accounts) ⌝ }
     requires { ⌜ (number ≤ mostRecords) × (n ≤ length (now block)) ⌝ }
     ensures stood { λ r. ⌜ (r .number ≡ number + servable number n) × (r .held ≡ n - servable number n * requestLength) ⌝ }
     ensures table { λ _. ⌜ now (table .exit) ≡ tableAfter printer (now (table .entry)) (handed (servable number n) (take n (now (block .entry)))) ⌝ }

@@ -1,2 +1,2 @@
--- The room that the report's lines take.
+-- What the report is made of, and its room.
 pub mod Room

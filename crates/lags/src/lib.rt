@@ -5,18 +5,17 @@ ghost use Prim.Native.Nat.{_+_, _*_, _≤_, _<_};
 ghost use lib.IntN.{subℕ};
 ghost use lib.ListN.{length};
 ghost use Rattle.rules.specs.Basic.{if_then_else_};
-ghost use Rattle.rules.specs.Board.{printer, tableLength, mostTicks};
+ghost use Rattle.rules.specs.Board.{printer, mostTicks};
 ghost use Rattle.rules.specs.State.{at};
 ghost use Rattle.rules.specs.Lines.{ready, inLine};
-ghost use Rattle.rules.specs.Sound.{Sound};
 ghost use Rattle.rules.specs.Table.{decode};
 ghost use Rattle.text.specs.Text.{ascii, signed};
 ghost use Rattle.text.specs.Puts.{Puts};
 ghost use Rattle.fairness.specs.Run.{sumTurns};
 ghost use Rattle.lanes.specs.Lag.{sumOver, lag};
 ghost use Rattle.lanes.specs.Report.{mostCharges, laneOf, reportText};
-ghost use Rattle.accounts.specs.Accounts.{of, Within};
-ghost use Rattle.lags.specs.Room.{laneRoom, reportRoom};
+ghost use Rattle.accounts.specs.Accounts.{of, Kept};
+ghost use Rattle.lags.specs.Room.{SaysSound, laneRoom, reportRoom};
 use rules::THREADS;
 use rules::Thread;
 
@@ -49,8 +48,8 @@ struct Rank {
 }
 
 fn rank_of(table: &[u8], accounts: &[u64], priority: u8) -> Rank
-    requires { ⌜ (length (now table) ≡ tableLength printer) × Sound (decode printer (now table)) ⌝ }
-    requires { ⌜ (length (now accounts) ≡ printer .threads) × Within 0 (now accounts) ⌝ }
+    requires { ⌜ SaysSound (now table) ⌝ }
+    requires { ⌜ Kept 0 (now accounts) ⌝ }
     ensures turns { λ r. ⌜ (r .turns ≤ printer .threads * mostTicks) × (r .turns ≡ sumTurns priority (decode printer (now (table .entry)) .threads)) ⌝ }
     ensures charged { λ r. ⌜ (r .charged ≤ printer .threads * mostCharges) × (r .charged ≡ sumOver priority (of (now (accounts .entry))) 0 (decode printer (now (table .entry)) .threads)) ⌝ }
 {
@@ -67,8 +66,8 @@ fn rank_of(table: &[u8], accounts: &[u64], priority: u8) -> Rank
 // "A thread not ready at the end has lag 0."
 fn lag_of(table: &[u8], accounts: &[u64], i: usize) -> i64
     requires { ⌜ i < printer .threads ⌝ }
-    requires { ⌜ (length (now table) ≡ tableLength printer) × Sound (decode printer (now table)) ⌝ }
-    requires { ⌜ (length (now accounts) ≡ printer .threads) × Within 0 (now accounts) ⌝ }
+    requires { ⌜ SaysSound (now table) ⌝ }
+    requires { ⌜ Kept 0 (now accounts) ⌝ }
     ensures value { λ r. ⌜ r ≡ lag (of (now (accounts .entry))) (decode printer (now (table .entry))) i ⌝ }
     ensures room { λ r. ⌜ length (signed r) ≤ 19 ⌝ }
 {
@@ -83,8 +82,8 @@ fn lag_of(table: &[u8], accounts: &[u64], i: usize) -> i64
 // The line of thread `i`, if it is in use.
 fn put_lane(table: &[u8], accounts: &[u64], i: usize, out: &mut [u8], to: usize) -> usize
     requires { ⌜ i < printer .threads ⌝ }
-    requires { ⌜ (length (now table) ≡ tableLength printer) × Sound (decode printer (now table)) ⌝ }
-    requires { ⌜ (length (now accounts) ≡ printer .threads) × Within 0 (now accounts) ⌝ }
+    requires { ⌜ SaysSound (now table) ⌝ }
+    requires { ⌜ Kept 0 (now accounts) ⌝ }
     requires { ⌜ to + laneRoom ≤ length (now out) ⌝ }
     ensures line { λ next. ⌜ Puts (now (out .entry)) to (laneOf (of (now (accounts .entry))) (decode printer (now (table .entry))) i (at (decode printer (now (table .entry)) .threads) i)) (now (out .exit)) next ⌝ }
     ensures room { λ next. ⌜ next ≤ to + laneRoom ⌝ }
@@ -115,8 +114,8 @@ fn put_stopped(stopped: bool, out: &mut [u8]) -> usize
 
 // The whole report goes to the start of `out`; the place after it is given back.
 pub fn put_report(table: &[u8], accounts: &[u64], stopped: bool, out: &mut [u8]) -> usize
-    requires { ⌜ (length (now table) ≡ tableLength printer) × Sound (decode printer (now table)) ⌝ }
-    requires { ⌜ (length (now accounts) ≡ printer .threads) × Within 0 (now accounts) ⌝ }
+    requires { ⌜ SaysSound (now table) ⌝ }
+    requires { ⌜ Kept 0 (now accounts) ⌝ }
     requires { ⌜ reportRoom ≤ length (now out) ⌝ }
     ensures text { λ next. ⌜ Puts (now (out .entry)) 0 (reportText stopped (of (now (accounts .entry))) (decode printer (now (table .entry)))) (now (out .exit)) next ⌝ }
     ensures room { λ next. ⌜ next ≤ reportRoom ⌝ }

@@ -5,14 +5,13 @@ ghost use mathlib.Core.Path.{_≡_};
 ghost use Prim.Native.Nat.{_-_, _≤_};
 ghost use lib.Dec.{leb};
 ghost use lib.ListN.{length, take};
-ghost use Rattle.rules.specs.Board.{printer, tableLength};
+ghost use Rattle.rules.specs.Board.{printer};
 ghost use Rattle.rules.specs.Requests.{requestLength};
-ghost use Rattle.rules.specs.Sound.{Sound};
 ghost use Rattle.rules.specs.Table.{decode};
 ghost use Rattle.text.specs.Puts.{Puts};
 ghost use Rattle.lanes.specs.Report.{mostRecords, reportText};
-ghost use Rattle.accounts.specs.Accounts.{of, Within};
-ghost use Rattle.lags.specs.Room.{reportRoom};
+ghost use Rattle.accounts.specs.Accounts.{of, Kept};
+ghost use Rattle.lags.specs.Room.{SaysSound, reportRoom};
 ghost use Rattle.report.specs.Going.{blockLength, Ended};
 use rules::THREADS;
 
@@ -42,8 +41,8 @@ fn close(
     ended: bool,
     out: &mut [u8],
 ) -> Reported
-    requires { ⌜ (length (now table) ≡ tableLength printer) × Sound (decode printer (now table)) ⌝ }
-    requires { ⌜ (length (now accounts) ≡ printer .threads) × Within 0 (now accounts) ⌝ }
+    requires { ⌜ SaysSound (now table) ⌝ }
+    requires { ⌜ Kept 0 (now accounts) ⌝ }
     requires { ⌜ reportRoom ≤ length (now out) ⌝ }
     ensures counts { λ r. ⌜ (r .bytes ≡ bytes) × (r .number ≡ number) × (r .held ≡ held) ⌝ }
     ensures text { λ r. ⌜ Puts (now (out .entry)) 0 (reportText (leb requestLength held) (of (now (accounts .entry))) (decode printer (now (table .entry)))) (now (out .exit)) (r .next) ⌝ }
@@ -71,8 +70,8 @@ fn run(
     block: &mut [u8],
     out: &mut [u8],
 ) -> Reported
-    requires { ⌜ (length (now table) ≡ tableLength printer) × Sound (decode printer (now table)) ⌝ }
-    requires { ⌜ (length (now accounts) ≡ printer .threads) × Within (mostRecords - first) (now accounts) ⌝ }
+    requires { ⌜ SaysSound (now table) ⌝ }
+    requires { ⌜ Kept (mostRecords - first) (now accounts) ⌝ }
     requires { ⌜ (first ≤ mostRecords) × (length (now block) ≡ blockLength) × (reportRoom ≤ length (now out)) ⌝ }
     ensures { λ r. ⌜ Ended first (now (table .entry)) (now (accounts .entry)) (r .bytes) (r .number) (now (table .exit)) (now (accounts .exit)) (take (r .held) (now (block .exit))) (take (r .next) (now (out .exit))) ⌝ }
 {
