@@ -24,29 +24,7 @@ use Rattle.rules.specs.Threads.{badPriority, badTicks, doCreate}
 use Rattle.rules.specs.Steps.{step}
 use Rattle.rules.specs.Door.{serveDecoded, door}
 use Rattle.rules.specs.declared.Request.{Request}
-use Rattle.rules.specs.declared.Request.the-variants.{
-  Yield,
-  Create,
-  Delete,
-  Set,
-  Suspend,
-  Resume,
-  Delay,
-  Cancel,
-  Send,
-  SendFromInterrupt,
-  Receive,
-  Make,
-  Drop,
-  Pend,
-  Abort,
-  Post,
-  PostFromInterrupt,
-  Lock,
-  Unlock,
-  Tick,
-  Outcome,
-}
+use Rattle.rules.specs.declared.Request.the-variants as Ask
 use Rattle.rules.specs.declared.Decoded.the-variants.{Asked}
 use Rattle.laws.proofs.Split.{is, isnt, test, clash, and-true, or-false, if-case}
 use Rattle.laws.proofs.Lines.{ready-used}
@@ -78,27 +56,27 @@ create-finds s i p n =
 
 step-finds : (s : State) (q : Request) → Sound s → isZero (codeOf (step s q .answer)) ≡ true → Finds (length (s .threads)) (deedOf q) (s .running)
 unfolding step
-step-finds s (Create i p n) σ z = create-finds s i p n z
-step-finds s Tick σ z = used-range (s .threads) (s .running) (ready-used (at (s .threads) (s .running)) (σ .runs))
-step-finds s Yield σ z = tt
-step-finds s (Delete i) σ z = tt
-step-finds s (Set i p n) σ z = tt
-step-finds s (Suspend i) σ z = tt
-step-finds s (Resume i) σ z = tt
-step-finds s (Delay n) σ z = tt
-step-finds s (Cancel i) σ z = tt
-step-finds s (Send i n x) σ z = tt
-step-finds s (SendFromInterrupt i x) σ z = tt
-step-finds s (Receive n) σ z = tt
-step-finds s (Make k n) σ z = tt
-step-finds s (Drop k) σ z = tt
-step-finds s (Pend k n) σ z = tt
-step-finds s (Abort i) σ z = tt
-step-finds s (Post k n) σ z = tt
-step-finds s (PostFromInterrupt k n) σ z = tt
-step-finds s Lock σ z = tt
-step-finds s Unlock σ z = tt
-step-finds s (Outcome i) σ z = tt
+step-finds s (Ask.Create i p n) σ z = create-finds s i p n z
+step-finds s Ask.Tick σ z = used-range (s .threads) (s .running) (ready-used (at (s .threads) (s .running)) (σ .runs))
+step-finds s Ask.Yield σ z = tt
+step-finds s (Ask.Delete i) σ z = tt
+step-finds s (Ask.Set i p n) σ z = tt
+step-finds s (Ask.Suspend i) σ z = tt
+step-finds s (Ask.Resume i) σ z = tt
+step-finds s (Ask.Delay n) σ z = tt
+step-finds s (Ask.Cancel i) σ z = tt
+step-finds s (Ask.Send i n x) σ z = tt
+step-finds s (Ask.SendFromInterrupt i x) σ z = tt
+step-finds s (Ask.Receive n) σ z = tt
+step-finds s (Ask.Make k n) σ z = tt
+step-finds s (Ask.Drop k) σ z = tt
+step-finds s (Ask.Pend k n) σ z = tt
+step-finds s (Ask.Abort i) σ z = tt
+step-finds s (Ask.Post k n) σ z = tt
+step-finds s (Ask.PostFromInterrupt k n) σ z = tt
+step-finds s Ask.Lock σ z = tt
+step-finds s Ask.Unlock σ z = tt
+step-finds s (Ask.Outcome i) σ z = tt
 
 pub finds : (b : Board) (t r a : List ℕ) (q : Request) → decodeRequest r ≡ Asked q → isZero (door b t r a .code) ≡ true → Finds (b .threads) (deedOf q) (decode b t .running)
 unfolding door serveDecoded

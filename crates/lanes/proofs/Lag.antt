@@ -20,29 +20,7 @@ use Rattle.rules.specs.Threads.{badPriority, badTicks, doCreate}
 use Rattle.rules.specs.Steps.{step}
 use Rattle.rules.specs.declared.Thread.{Thread}
 use Rattle.rules.specs.declared.Request.{Request}
-use Rattle.rules.specs.declared.Request.the-variants.{
-  Yield,
-  Create,
-  Delete,
-  Set,
-  Suspend,
-  Resume,
-  Delay,
-  Cancel,
-  Send,
-  SendFromInterrupt,
-  Receive,
-  Make,
-  Drop,
-  Pend,
-  Abort,
-  Post,
-  PostFromInterrupt,
-  Lock,
-  Unlock,
-  Tick,
-  Outcome,
-}
+use Rattle.rules.specs.declared.Request.the-variants as Ask
 use Rattle.laws.proofs.Split.{is, isnt, test, clash, and-true, and-off, or-false, if-case}
 use Rattle.laws.proofs.Lines.{in-ready, ready-used, free-out}
 use Rattle.laws.proofs.Members.{in-range}
@@ -67,30 +45,30 @@ create-refused s i p n u =
 
 not-made : (s : State) (i : ℕ) (q : Request) → at (s .threads) i .used ≡ true → makes i (deedOf q) && isZero (codeOf (step s q .answer)) ≡ false
 unfolding step
-not-made s i (Create j p n) u = elim (test (eqb j i)) [
+not-made s i (Ask.Create j p n) u = elim (test (eqb j i)) [
   | is e ↦ rw (e, eqb-true j i e, create-refused s i p n u)
   | isnt e ↦ rw e
 ]
-not-made s i Yield u = refl
-not-made s i (Delete j) u = refl
-not-made s i (Set j p n) u = refl
-not-made s i (Suspend j) u = refl
-not-made s i (Resume j) u = refl
-not-made s i (Delay n) u = refl
-not-made s i (Cancel j) u = refl
-not-made s i (Send j n x) u = refl
-not-made s i (SendFromInterrupt j x) u = refl
-not-made s i (Receive n) u = refl
-not-made s i (Make j n) u = refl
-not-made s i (Drop j) u = refl
-not-made s i (Pend j n) u = refl
-not-made s i (Abort j) u = refl
-not-made s i (Post j n) u = refl
-not-made s i (PostFromInterrupt j n) u = refl
-not-made s i Lock u = refl
-not-made s i Unlock u = refl
-not-made s i Tick u = refl
-not-made s i (Outcome j) u = refl
+not-made s i Ask.Yield u = refl
+not-made s i (Ask.Delete j) u = refl
+not-made s i (Ask.Set j p n) u = refl
+not-made s i (Ask.Suspend j) u = refl
+not-made s i (Ask.Resume j) u = refl
+not-made s i (Ask.Delay n) u = refl
+not-made s i (Ask.Cancel j) u = refl
+not-made s i (Ask.Send j n x) u = refl
+not-made s i (Ask.SendFromInterrupt j x) u = refl
+not-made s i (Ask.Receive n) u = refl
+not-made s i (Ask.Make j n) u = refl
+not-made s i (Ask.Drop j) u = refl
+not-made s i (Ask.Pend j n) u = refl
+not-made s i (Ask.Abort j) u = refl
+not-made s i (Ask.Post j n) u = refl
+not-made s i (Ask.PostFromInterrupt j n) u = refl
+not-made s i Ask.Lock u = refl
+not-made s i Ask.Unlock u = refl
+not-made s i Ask.Tick u = refl
+not-made s i (Ask.Outcome j) u = refl
 
 not-created : (p : ℕ) (e : Event) (i : ℕ) → ByRules e → readyAt p (e .before) i ≡ true → creates i e ≡ false
 not-created p e i (refused a k) m = rw a (and-off (makes i (deed (e .asked))))

@@ -12,29 +12,7 @@ use denote.Enum.Declared.{tagOf}
 use denote.Ref.{now}
 use Rattle.rules.proofs.Request as R
 use Rattle.rules.specs.declared.Request.{Request}
-use Rattle.rules.specs.declared.Request.the-variants.{
-  Yield,
-  Create,
-  Delete,
-  Set,
-  Suspend,
-  Resume,
-  Delay,
-  Cancel,
-  Send,
-  SendFromInterrupt,
-  Receive,
-  Make,
-  Drop,
-  Pend,
-  Abort,
-  Post,
-  PostFromInterrupt,
-  Lock,
-  Unlock,
-  Tick,
-  Outcome,
-}
+use Rattle.rules.specs.declared.Request.the-variants as Ask
 use Rattle.fairness.specs.Run.{deedOf}
 use Rattle.accounts.specs.Accounts.{entered}
 use Rattle.accounts.proofs.enter.Statement.{statement}
@@ -45,27 +23,27 @@ abbrev others : List ℕ
 others = 0 ∷ 2 ∷ 3 ∷ 4 ∷ 5 ∷ 6 ∷ 7 ∷ 8 ∷ 9 ∷ 10 ∷ 11 ∷ 12 ∷ 13 ∷ 14 ∷ 15 ∷ 16 ∷ 17 ∷ 18 ∷ 20 ∷ []
 
 nothing-entered : (ns : List ℕ) (q : Request) (ran lock : ℕ) → OneOf others (tagOf R.the-type q) → ns ≡ entered ns (deedOf q) ran lock
-nothing-entered ns (Create i p n) ran lock k = absurd (miss others 1 tt k)
-nothing-entered ns Tick ran lock k = absurd (miss others 19 tt k)
-nothing-entered ns Yield ran lock k = refl
-nothing-entered ns (Delete i) ran lock k = refl
-nothing-entered ns (Set i p n) ran lock k = refl
-nothing-entered ns (Suspend i) ran lock k = refl
-nothing-entered ns (Resume i) ran lock k = refl
-nothing-entered ns (Delay n) ran lock k = refl
-nothing-entered ns (Cancel i) ran lock k = refl
-nothing-entered ns (Send i n x) ran lock k = refl
-nothing-entered ns (SendFromInterrupt i x) ran lock k = refl
-nothing-entered ns (Receive n) ran lock k = refl
-nothing-entered ns (Make j n) ran lock k = refl
-nothing-entered ns (Drop j) ran lock k = refl
-nothing-entered ns (Pend j n) ran lock k = refl
-nothing-entered ns (Abort i) ran lock k = refl
-nothing-entered ns (Post j n) ran lock k = refl
-nothing-entered ns (PostFromInterrupt j n) ran lock k = refl
-nothing-entered ns Lock ran lock k = refl
-nothing-entered ns Unlock ran lock k = refl
-nothing-entered ns (Outcome i) ran lock k = refl
+nothing-entered ns (Ask.Create i p n) ran lock k = absurd (miss others 1 tt k)
+nothing-entered ns Ask.Tick ran lock k = absurd (miss others 19 tt k)
+nothing-entered ns Ask.Yield ran lock k = refl
+nothing-entered ns (Ask.Delete i) ran lock k = refl
+nothing-entered ns (Ask.Set i p n) ran lock k = refl
+nothing-entered ns (Ask.Suspend i) ran lock k = refl
+nothing-entered ns (Ask.Resume i) ran lock k = refl
+nothing-entered ns (Ask.Delay n) ran lock k = refl
+nothing-entered ns (Ask.Cancel i) ran lock k = refl
+nothing-entered ns (Ask.Send i n x) ran lock k = refl
+nothing-entered ns (Ask.SendFromInterrupt i x) ran lock k = refl
+nothing-entered ns (Ask.Receive n) ran lock k = refl
+nothing-entered ns (Ask.Make j n) ran lock k = refl
+nothing-entered ns (Ask.Drop j) ran lock k = refl
+nothing-entered ns (Ask.Pend j n) ran lock k = refl
+nothing-entered ns (Ask.Abort i) ran lock k = refl
+nothing-entered ns (Ask.Post j n) ran lock k = refl
+nothing-entered ns (Ask.PostFromInterrupt j n) ran lock k = refl
+nothing-entered ns Ask.Lock ran lock k = refl
+nothing-entered ns Ask.Unlock ran lock k = refl
+nothing-entered ns (Ask.Outcome i) ran lock k = refl
 
 enum-told : tie.Need-enum-told
 enum-told c = search needs
