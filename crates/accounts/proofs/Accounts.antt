@@ -17,7 +17,8 @@ use Rattle.fairness.specs.Run.{Event, Deed, tick, yield, other, change, create,
 use Rattle.lanes.specs.Lag.{makes, creates, accountFrom}
 use Rattle.lanes.specs.Report.{mostCharges}
 use Rattle.lanes.proofs.Lag.{account-append, account-most}
-use Rattle.accounts.specs.Accounts.{of, accountsFrom, entered, Within}
+use Rattle.lanes.specs.Kept.{of, Within}
+use Rattle.accounts.specs.Accounts.{accountsFrom, entered}
 
 pub length-accounts : (i : ℕ) (ns : List ℕ) (run : List Event) → length (accountsFrom i ns run) ≡ length ns
 unfolding accountsFrom

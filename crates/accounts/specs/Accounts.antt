@@ -1,22 +1,18 @@
--- The accounts of all threads, by number, and what serving some records makes of them.
-use mathlib.Core.Path.{_≡_}
+-- What serving some records makes of the accounts of all threads.
 use mathlib.Core.List.{List, [], _∷_, map}
-use Prim.Native.Nat.{ℕ, suc, _+_, _-_, _*_, _/_, _≤_, _<_, min}
+use Prim.Native.Nat.{ℕ, suc, _+_, _-_, _/_, _<_, min}
 use lib.Dec.{eqb}
-use lib.ListN.{length, getD, set}
+use lib.ListN.{set}
 use Rattle.rules.specs.Basic.{if_then_else_}
-use Rattle.rules.specs.Board.{printer, mostTicks}
+use Rattle.rules.specs.Board.{printer}
 use Rattle.rules.specs.Requests.{requestLength}
 use Rattle.rules.specs.Door.{Handed, door}
 use Rattle.rules.specs.Trace.{records, cleanly}
 use Rattle.fairness.specs.Run.{Event, Deed, tick, yield, other, change, create}
 use Rattle.fairness.specs.Doors.{runOf}
 use Rattle.lanes.specs.Lag.{accountFrom}
-use Rattle.lanes.specs.Report.{mostRecords, mostCharges}
-
--- what a thread has; the first of the accounts is thread 0's
-abbrev pub of : List ℕ → ℕ → ℕ
-of accounts i = getD accounts i 0
+use Rattle.lanes.specs.Report.{mostRecords}
+use Rattle.lanes.specs.Kept.{of}
 
 -- the accounts after a run; the first of them is thread i's
 unfoldable pub accountsFrom : ℕ → List ℕ → List Event → List ℕ
@@ -44,14 +40,6 @@ eventsOf t k bytes = runOf printer (door printer) t (handed k bytes)
 -- how many of n bytes' records are served after `number` others: "If whole records are left after 1,000,000", they are not
 abbrev pub servable : ℕ → ℕ → ℕ
 servable number n = min (n / requestLength) (mostRecords - number)
-
--- so many more records leave every account within the most that the report reckons with
-abbrev pub Within : ℕ → List ℕ → Type 0
-Within more accounts = (i : ℕ) → of accounts i + mostTicks * more ≤ mostCharges
-
--- an account for each thread of the board, with room for so many more records
-abbrev pub Kept : ℕ → List ℕ → Type 0
-Kept more accounts = (length accounts ≡ printer .threads) × Within more accounts
 
 -- a deed finds the account that it changes among n
 abbrev pub Finds : ℕ → Deed → ℕ → Type 0

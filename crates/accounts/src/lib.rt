@@ -12,7 +12,8 @@ ghost use Rattle.rules.specs.Trace.{cleanArea, cleanly};
 ghost use Rattle.fairness.specs.Run.{deedOf};
 ghost use Rattle.fairness.specs.Doors.{eventOf};
 ghost use Rattle.lanes.specs.Report.{mostRecords};
-ghost use Rattle.accounts.specs.Accounts.{accountsFrom, entered, handed, eventsOf, servable, Within, Kept, Finds};
+ghost use Rattle.lanes.specs.Kept.{Within, Kept};
+ghost use Rattle.accounts.specs.Accounts.{accountsFrom, entered, handed, eventsOf, servable, Finds};
 use rules::Decoded;
 use rules::Request;
 

@@ -14,7 +14,7 @@ ghost use Rattle.text.specs.Puts.{Puts};
 ghost use Rattle.fairness.specs.Run.{sumTurns};
 ghost use Rattle.lanes.specs.Lag.{sumOver, lag};
 ghost use Rattle.lanes.specs.Report.{mostCharges, laneOf, reportText};
-ghost use Rattle.accounts.specs.Accounts.{of, Kept};
+ghost use Rattle.lanes.specs.Kept.{of, Kept};
 ghost use Rattle.lags.specs.Room.{SaysSound, laneRoom, reportRoom};
 use rules::THREADS;
 use rules::Thread;

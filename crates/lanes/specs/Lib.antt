@@ -1,4 +1,5 @@
 -- What the lane report says of a run, and of an input.
 pub mod Lag
 pub mod Report
+pub mod Kept
 pub mod Example

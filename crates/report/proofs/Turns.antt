@@ -29,7 +29,8 @@ use Rattle.lanes.specs.Lag.{accountFrom}
 use Rattle.lanes.specs.Report.{mostRecords, laneLines, reportText, reportOn}
 use Rattle.lanes.proofs.Lag.{run-sound}
 use Rattle.lanes.proofs.Lines.{lines-as}
-use Rattle.accounts.specs.Accounts.{of, accountsFrom, handed, eventsOf, servable, Within}
+use Rattle.lanes.specs.Kept.{of, Within}
+use Rattle.accounts.specs.Accounts.{accountsFrom, handed, eventsOf, servable}
 use Rattle.accounts.proofs.Accounts.{account-at, accounts-none, accounts-append, still-within}
 use Rattle.accounts.proofs.Served.{handed-add, length-events}
 use Rattle.report.specs.Going.{Stands, Ended}

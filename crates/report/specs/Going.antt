@@ -10,7 +10,8 @@ use Rattle.rules.specs.Board.{printer}
 use Rattle.rules.specs.Requests.{requestLength}
 use Rattle.rules.specs.Door.{door, tableAfter}
 use Rattle.lanes.specs.Report.{reportOn}
-use Rattle.accounts.specs.Accounts.{of, accountsFrom, handed, eventsOf, servable}
+use Rattle.lanes.specs.Kept.{of}
+use Rattle.accounts.specs.Accounts.{accountsFrom, handed, eventsOf, servable}
 
 -- a block holds 1,024 records
 abbrev pub blockLength : ℕ

@@ -10,7 +10,7 @@ ghost use Rattle.rules.specs.Requests.{requestLength};
 ghost use Rattle.rules.specs.Table.{decode};
 ghost use Rattle.text.specs.Puts.{Puts};
 ghost use Rattle.lanes.specs.Report.{mostRecords, reportText};
-ghost use Rattle.accounts.specs.Accounts.{of, Kept};
+ghost use Rattle.lanes.specs.Kept.{of, Kept};
 ghost use Rattle.lags.specs.Room.{SaysSound, reportRoom};
 ghost use Rattle.report.specs.Going.{blockLength, Ended};
 use rules::THREADS;

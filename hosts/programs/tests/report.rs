@@ -124,13 +124,13 @@ fn traces_are_reported(seeds: Range<u64>) {
 
 #[test]
 fn random_traces_are_reported_as_by_the_model() {
-    traces_are_reported(0..1_000);
+    traces_are_reported(0..2_000);
 }
 
 #[test]
-#[ignore = "10,000 runs of the program take minutes"]
+#[ignore = "9,000 runs of the program take minutes"]
 fn many_random_traces_are_reported_as_by_the_model() {
-    traces_are_reported(1_000..11_000);
+    traces_are_reported(2_000..11_000);
 }
 
 #[test]

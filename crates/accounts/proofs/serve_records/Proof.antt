@@ -11,7 +11,8 @@ use Rattle.rules.specs.Requests.{requestLength}
 use Rattle.rules.specs.Door.{door, tableAfter}
 use Rattle.rules.specs.Trace.{records, cleanArea, cleanly}
 use Rattle.fairness.specs.Doors.{eventOf, runOf}
-use Rattle.accounts.specs.Accounts.{of, accountsFrom, handed, eventsOf}
+use Rattle.lanes.specs.Kept.{of}
+use Rattle.accounts.specs.Accounts.{accountsFrom, handed, eventsOf}
 use Rattle.accounts.proofs.Accounts.{accounts-none, still-within}
 use Rattle.accounts.proofs.Served.{table-next, accounts-next, length-events}
 use Rattle.accounts.proofs.serve_records.Statement.{statement}

@@ -16,7 +16,7 @@ use Rattle.laws.proofs.Lines.{ready-used}
 use Rattle.text.proofs.Decimal.{decimal-room}
 use Rattle.fairness.specs.Run.{sumTurns}
 use Rattle.lanes.specs.Lag.{sumOver}
-use Rattle.accounts.specs.Accounts.{of}
+use Rattle.lanes.specs.Kept.{of}
 use Rattle.lags.proofs.Turned.{lag-unready, lag-ready}
 use Rattle.lags.proofs.lag_of.Statement.{statement}
 use Rattle.lags.proofs.lag_of.Tie as tie

@@ -18,7 +18,7 @@ use Rattle.text.specs.Text.{decimal, signed}
 use Rattle.text.proofs.Decimal.{decimal-room}
 use Rattle.text.proofs.Sign.{read}
 use Rattle.text.proofs.Putting.{_followed-by_, with-field}
-use Rattle.accounts.specs.Accounts.{of}
+use Rattle.lanes.specs.Kept.{of}
 use Rattle.lags.proofs.put_lane.Statement.{statement}
 use Rattle.lags.proofs.put_lane.Tie as tie
 

@@ -13,7 +13,7 @@ use Rattle.layout.proofs.RoundTrip.{on-decode}
 use Rattle.text.specs.Puts.{Puts}
 use Rattle.text.proofs.Putting.{_followed-by_}
 use Rattle.lanes.specs.Report.{laneLines}
-use Rattle.accounts.specs.Accounts.{of}
+use Rattle.lanes.specs.Kept.{of}
 use Rattle.lags.specs.Room.{laneRoom}
 use Rattle.lags.proofs.Turned.{lines-turn}
 use Rattle.lags.proofs.put_report.Statement.{statement}

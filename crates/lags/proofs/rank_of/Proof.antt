@@ -15,7 +15,7 @@ use Rattle.layout.proofs.RoundTrip.{on-decode}
 use Rattle.fairness.specs.Run.{sumTurns}
 use Rattle.lanes.specs.Lag.{sumOver}
 use Rattle.lanes.specs.Report.{mostCharges}
-use Rattle.accounts.specs.Accounts.{of}
+use Rattle.lanes.specs.Kept.{of}
 use Rattle.lags.proofs.Turned.{turns-turn, over-turn, turn-most, counted-most}
 use Rattle.lags.proofs.rank_of.Statement.{statement}
 use Rattle.lags.proofs.rank_of.Tie as tie

@@ -7,7 +7,7 @@ use lib.ListN.{replicate}
 use Rattle.rules.specs.Board.{printer}
 use Rattle.rules.specs.Door.{freshTable}
 use Rattle.laws.proofs.Tested.{tested-table, fresh-sound}
-use Rattle.accounts.specs.Accounts.{of}
+use Rattle.lanes.specs.Kept.{of}
 use Rattle.report.proofs.main.Statement.{statement}
 use Rattle.report.proofs.main.Tie as tie
 
