@@ -1,21 +1,18 @@
 -- The accounts, one by one: after a run each thread has its own, runs one after the other are one run, and one event changes one account.
 -- Assumes nothing.
-use mathlib.Core.Bool.{true, false, _&&_}
-use mathlib.Core.Path.{_≡_, refl, sym, ap, subst, _∙_}
+use mathlib.Core.Bool.{true, false}
+use mathlib.Core.Path.{_≡_, refl, sym, ap, _∙_}
 use mathlib.Core.List.{List, [], _∷_, _++_}
-use Prim.Native.Nat.{ℕ, zero, suc, _+_, _-_, _*_, _≤_, _<_}
+use Prim.Native.Nat.{ℕ, zero, suc, _+_, _-_, _≤_, _<_}
 use native.Mathlib.Nat.{not-suc-le-zero, le-of-suc-le-suc}
 use native.Mathlib.Omega.{arith}
 use lib.Dec.{eqb}
 use borrow.Author.Tests.{eqb-true, eqb-false}
-use lib.ListN.{length, getD, set, length-set}
+use lib.ListN.{length, set, length-set}
 use lib.Seq.{ext-getD, getD-set-same, getD-set-other}
-use Rattle.rules.specs.Basic.{if_then_else_, bit}
-use Rattle.rules.specs.Board.{mostTicks}
 use Rattle.laws.proofs.Split.{is, isnt, test, and-off}
 use Rattle.fairness.specs.Run.{Event, Deed, tick, yield, other, change, create, deed, accepted, chargedTo}
 use Rattle.lanes.specs.Lag.{makes, creates, accountFrom}
-use Rattle.lanes.specs.Report.{mostCharges}
 use Rattle.lanes.proofs.Lag.{account-append, account-most}
 use Rattle.lanes.specs.Kept.{of, Within}
 use Rattle.accounts.specs.Accounts.{accountsFrom, entered}

@@ -1,15 +1,13 @@
 -- One record more: the table, the events and the accounts after the first j + 1 records. Assumes nothing.
-use mathlib.Core.Path.{_≡_, refl, sym, ap, _∙_}
+use mathlib.Core.Path.{_≡_, refl, ap, _∙_}
 use mathlib.Core.List.{List, [], _∷_, _++_, map, map-append}
-use Prim.Native.Nat.{ℕ, zero, suc, _+_, _-_, _*_}
-use native.Mathlib.Omega.{arith}
+use Prim.Native.Nat.{ℕ, suc, _+_, _-_, _*_}
 use lib.ListN.{length, take, drop}
 use Rattle.rules.specs.Board.{printer}
 use Rattle.rules.specs.Requests.{requestLength}
 use Rattle.rules.specs.Door.{Handed, door, tableAfter}
 use Rattle.rules.specs.Trace.{records, cleanArea, cleanly}
 use Rattle.parts.proofs.Whole.{records-add, records-length}
-use Rattle.fairness.specs.Run.{Event}
 use Rattle.fairness.specs.Doors.{eventOf, runOf}
 use Rattle.fairness.proofs.Doors.{table-follows, run-follows}
 use Rattle.accounts.specs.Accounts.{accountsFrom, handed, eventsOf}

@@ -17,8 +17,8 @@ use Rattle.rules.specs.declared.Decoded.the-variants.{Asked, Bad}
 use Rattle.laws.proofs.Split.{if-case}
 use Rattle.layout.proofs.RoundTrip.{on-decode, decode-encode}
 use Rattle.preservation.proofs.Frame.{on-kept}
-use Rattle.fairness.specs.Run.{Event, endOf}
-use Rattle.fairness.specs.Doors.{Door, eventOf, runOf}
+use Rattle.fairness.specs.Run.{endOf}
+use Rattle.fairness.specs.Doors.{eventOf, runOf}
 use Rattle.fairness.specs.Fair.{ByRules, refused, served, RunFrom}
 
 -- ONE CALL, as an event by the rules

@@ -1,17 +1,17 @@
 -- A lane's lag is 0 after whole rounds: each thread of the rank is charged k times its turn, so all of them together k times the turns'
 -- sum, and the two products of the lag are one. Assumes nothing.
-use mathlib.Core.Bool.{Bool, true, false, _&&_, _||_}
+use mathlib.Core.Bool.{true, false, _&&_, _||_}
 use mathlib.Core.Path.{_≡_, refl, ap, sym, _∙_}
-use mathlib.Core.List.{List, [], _∷_, _++_}
-use Prim.Native.Nat.{ℕ, zero, suc, _+_, _*_, _<_, _≤_, _-_}
+use mathlib.Core.List.{List, [], _∷_, _++_, append-nil}
+use Prim.Native.Nat.{ℕ, suc, _+_, _*_, _<_, _≤_, _-_}
 use native.Mathlib.Omega.{arith}
-use lib.Dec.{eqb, ltb, leb}
+use lib.Dec.{eqb, leb}
 use borrow.Author.Tests.{eqb-true, le-ltb}
-use lib.IntN.{ℤ, pos, subℕ}
+use lib.IntN.{pos, subℕ}
 use lib.ListN.{length}
-use Rattle.rules.specs.Basic.{if_then_else_, bit, count, all}
+use Rattle.rules.specs.Basic.{bit, count, all}
 use Rattle.rules.specs.Board.{Board}
-use Rattle.rules.specs.State.{State, at, isReady}
+use Rattle.rules.specs.State.{State, at}
 use Rattle.rules.specs.Lines.{ready, inLine}
 use Rattle.rules.specs.Answers.{codeOf}
 use Rattle.rules.specs.Sound.{Sound}
@@ -22,12 +22,12 @@ use Rattle.rules.specs.declared.Thread.{Thread}
 use Rattle.rules.specs.declared.Request.{Request}
 use Rattle.rules.specs.declared.Request.the-variants as Ask
 use Rattle.laws.proofs.Split.{is, isnt, test, clash, and-true, and-off, or-false, if-case}
-use Rattle.laws.proofs.Lines.{in-ready, ready-used, free-out}
+use Rattle.laws.proofs.Lines.{in-ready, ready-used}
 use Rattle.laws.proofs.Members.{in-range}
-use Rattle.fairness.specs.Run.{Event, endOf, Deed, tick, yield, other, change, create, deed, deedOf, isZero, accepted, readyAt, sumTurns, chargedTo, chargedRank, sameSet}
+use Rattle.fairness.specs.Run.{Event, endOf, deed, deedOf, isZero, readyAt, sumTurns, chargedTo, chargedRank}
 use Rattle.fairness.specs.Fair.{ByRules, refused, served, RunFrom, steady}
 use Rattle.preservation.proofs.Frame.{on-kept}
-use Rattle.fairness.proofs.Rank.{Fare, turns, same-turns}
+use Rattle.fairness.proofs.Rank.{turns, same-turns}
 use Rattle.fairness.proofs.View.{view, view-in}
 use Rattle.fairness.proofs.Fair.{same-set, sum-turns, run-append, Ran, ran, event-sound, fairness}
 use Rattle.lanes.specs.Lag.{makes, creates, accountOn, accountFrom, account, sumOver, lagOf, lag, NoLag}
@@ -151,10 +151,6 @@ pub run-sound : (s : State) (es : List Event) → RunFrom s es → Sound s → S
 run-sound s [] h σ = σ
 run-sound s (e ∷ es) h σ = run-sound (e .after) es (h .2) (event-sound e (h .1) (rw (h .0) σ))
 
-append-none : {A : Type 0} (xs : List A) → xs ++ [] ≡ xs
-append-none [] = refl
-append-none (x ∷ xs) = ap (λ l. x ∷ l) (append-none xs)
-
 run-same : (p : ℕ) (s : State) (es : List Event) → RunFrom s es → all (steady p) es ≡ true → (j : ℕ) → readyAt p (endOf s es) j ≡ readyAt p s j
 run-same p s [] h k j = refl
 run-same p s (e ∷ es) h k j =
@@ -184,7 +180,7 @@ no-lag p k s before part σ h steadily earlier whole i m =
       account-append j 0 before part,
       account-steady p j (account before j) u part (there j l) (h₁ .1) steadily,
       earlier j (rw ends l),
-      fairness p k u [] part [] τ (rw (append-none part) (h₁ .1)) (rw (append-none part) steadily) whole' j (there j l)
+      fairness p k u [] part [] τ (rw (append-nil part) (h₁ .1)) (rw (append-nil part) steadily) whole' j (there j l)
           ∙ ap (λ c. k * c) (sym (turn j l)),
     ) in
     rw ends (lag-none p k (account (before ++ part)) x fair i (rw ends at m))

@@ -1,10 +1,10 @@
 -- `accounts::serve` meets its contract: as many records are served as may be, and what is kept is what stands behind them. Assumes nothing.
-use mathlib.Core.Path.{_≡_, sym, ap, _∙_}
+use mathlib.Core.Path.{sym, ap, _∙_}
 use Prim.Native.Nat.{_-_, _*_}
 use native.Mathlib.Omega.{arith}
 use borrow.Author.Needs.{needs}
 use denote.Ref.{now}
-use lib.ListN.{length, take, drop}
+use lib.ListN.{take, drop}
 use lib.Seq.{sets, length-take-le}
 use Rattle.rules.specs.Board.{printer}
 use Rattle.rules.specs.Requests.{requestLength}

@@ -1,7 +1,5 @@
 -- `accounts::serve_record` meets its contract: what is entered is what the event charges and creates. Assumes nothing.
-use mathlib.Core.Bool.{true, false}
 use mathlib.Core.Path.{_≡_, refl, sym, ap, _∙_}
-use mathlib.Core.List.{List}
 use Prim.Native.Nat.{_+_, _-_}
 use native.Mathlib.Omega.{arith}
 use borrow.Author.Needs.{needs}
@@ -15,7 +13,7 @@ use Rattle.rules.specs.Trace.{cleanArea, cleanly}
 use Rattle.rules.specs.declared.Decoded.the-variants.{Asked}
 use Rattle.fairness.specs.Run.{other, deedOf, deed, isZero}
 use Rattle.fairness.specs.Doors.{eventOf}
-use Rattle.accounts.specs.Accounts.{Finds, entered}
+use Rattle.accounts.specs.Accounts.{entered}
 use Rattle.accounts.proofs.Accounts.{not-entered, by-deed}
 use Rattle.accounts.proofs.Accepted.{code-zero, code-other, finds}
 use Rattle.accounts.proofs.serve_record.Statement.{statement}

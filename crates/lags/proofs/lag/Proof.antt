@@ -1,5 +1,4 @@
 -- `lags::lag` meets its contract: both products and their difference fit, so that nothing wraps on either side of zero. Assumes nothing.
-use mathlib.Core.Path.{_≡_}
 use Prim.Native.Nat.{_*_, _≤_}
 use native.Mathlib.Omega.{arith}
 use mir.Syntax.{w64}
