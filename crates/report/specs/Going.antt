@@ -1,7 +1,7 @@
 -- What all turns of the program come to. No contract says which bytes a read gives, so `seen` is some bytes, as many as the reads say; all
 -- that follows from them is said. The run is promised for every sound table, all accounts and every number of records that it may go on from, so
--- that one which takes a fresh table or new accounts between two reads does not meet it, nor one which counts the records anew, drops what
--- came or forgets what is left over.
+-- that one which takes a fresh table or new accounts between two reads does not meet it, nor one which counts the records anew or forgets what
+-- is left over. Which bytes came it cannot say: docs/PROMISES.md, "What is not said", has what a run could then do and still meet it.
 use mathlib.Core.Path.{_≡_}
 use mathlib.Core.List.{List}
 use Prim.Native.Nat.{ℕ, _+_, _*_}
