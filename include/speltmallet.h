@@ -4,10 +4,11 @@
  * The kernel's whole state is a table of 600 bytes that the caller keeps and lends. The caller also lends a request record of 12
  * bytes and an answer area of 8 bytes. Wide fields are little-endian, whatever the processor.
  *
- *     uint8_t table[SPELTMALLET_TABLE_BYTES] = SPELTMALLET_FRESH;
+ *     uint8_t table[SPELTMALLET_TABLE_BYTES];
  *     uint8_t answer[SPELTMALLET_ANSWER_BYTES];
  *     static const uint8_t tick[SPELTMALLET_REQUEST_BYTES] = { SPELTMALLET_OP_TICK };
  *
+ *     speltmallet_fresh(table);
  *     code = speltmallet_door(table, sizeof table, tick, sizeof tick, answer, sizeof answer);
  *     run(speltmallet_running(table));
  *
@@ -25,10 +26,12 @@ extern "C" {
 #endif
 
 /* The project's version; the file VERSION has it too. From 0.7.0 on a blocked Send or Pend has a value: how many are ahead. From
- * 0.8.0 on units that Post hands to waiters don't count towards its limit. */
-#define SPELTMALLET_VERSION "0.8.0"
+ * 0.8.0 on units that Post hands to waiters don't count towards its limit. From 0.9.0 on a table holds the ready word: one that was
+ * saved by a version before 0.9.0, or made fresh by its header, gets BAD_TABLE (-7). Make a fresh table, and set the printer up
+ * anew. */
+#define SPELTMALLET_VERSION "0.9.0"
 #define SPELTMALLET_VERSION_MAJOR 0
-#define SPELTMALLET_VERSION_MINOR 8
+#define SPELTMALLET_VERSION_MINOR 9
 #define SPELTMALLET_VERSION_PATCH 0
 
 /*
@@ -68,8 +71,15 @@ extern "C" {
 int32_t speltmallet_door(uint8_t *table, size_t table_len, const uint8_t *request, size_t request_len, uint8_t *answer,
                          size_t answer_len);
 
-/* A fresh table: Init in use, place 1, outcome 1, turn 10, counter 10; all other bytes are zero. It initialises an array. */
-#define SPELTMALLET_FRESH { 1, 0, 0, 0, 0, 1, 0, 1, 10, 0, 0, 0, 10, 0, 0, 0 }
+/* Thread 0 of a fresh table, byte by byte: Init in use, place 1, outcome 1, turn 10, counter 10. */
+#define SPELTMALLET_FRESH_INIT 1, 0, 0, 0, 0, 1, 0, 1, 10, 0, 0, 0, 10, 0, 0, 0
+
+/* A fresh table: Init as above, and the ready word is 1; all other bytes are zero. It initialises an array, in C only: it reaches
+ * the ready word by a designator, which C has from C99 on and C++ has not. In C++, and in plain C89, call speltmallet_fresh, below,
+ * which works everywhere. */
+#ifndef __cplusplus
+#define SPELTMALLET_FRESH { SPELTMALLET_FRESH_INIT, [SPELTMALLET_KERNEL + SPELTMALLET_KERNEL_READY] = 1 }
+#endif
 
 /* Lengths in bytes. */
 #define SPELTMALLET_TABLE_BYTES 600
@@ -228,9 +238,16 @@ int32_t speltmallet_door(uint8_t *table, size_t table_len, const uint8_t *reques
 #define SPELTMALLET_SEMAPHORE_IN_USE 0
 #define SPELTMALLET_SEMAPHORE_COUNT 1
 
-/* Where the fields of the kernel's record stand. */
+/*
+ * Where the fields of the kernel's record stand.
+ *
+ * Bit p of the ready word, counted from the lowest, is set exactly when a thread of priority p is ready: in use, not suspended, not
+ * waiting. Bit 0 is always set, since Init is always ready. The word is the kernel's own, which keeps it in every call and finds by
+ * it who runs. Firmware may read it between calls, and never writes it: a table with a wrong bit is unsound and gets BAD_TABLE (-7).
+ */
 #define SPELTMALLET_KERNEL_RUNNING 0
 #define SPELTMALLET_KERNEL_LOCK 1
+#define SPELTMALLET_KERNEL_READY 2 /* 4 bytes, the ready word */
 
 /* What a wait kind says. */
 #define SPELTMALLET_WAIT_NONE 0
@@ -285,15 +302,19 @@ SPELTMALLET_HELPER void speltmallet_request(uint8_t request[SPELTMALLET_REQUEST_
     speltmallet_put_word(request + SPELTMALLET_REQUEST_DATA, data);
 }
 
-/* Makes a table fresh. */
-SPELTMALLET_HELPER void speltmallet_reset(uint8_t table[SPELTMALLET_TABLE_BYTES])
+/* Makes a table fresh, in C and in C++. Written so, no compiler known here makes a call of memset of the loop, which would need a
+ * library. */
+SPELTMALLET_HELPER void speltmallet_fresh(uint8_t table[SPELTMALLET_TABLE_BYTES])
 {
-    static const uint8_t init[SPELTMALLET_RECORD_BYTES] = SPELTMALLET_FRESH;
+    static const uint8_t init[] = { SPELTMALLET_FRESH_INIT };
     size_t k;
 
     for (k = 0; k < SPELTMALLET_TABLE_BYTES; k++)
-        table[k] = (uint8_t)(k < sizeof init ? init[k] : 0);
+        table[k] = (uint8_t)(k < sizeof init ? init[k] : k == SPELTMALLET_KERNEL + SPELTMALLET_KERNEL_READY);
 }
+
+/* The same, by its name in versions before 0.9.0. */
+#define speltmallet_reset speltmallet_fresh
 
 /* The thread that runs now. */
 SPELTMALLET_HELPER uint8_t speltmallet_running(const uint8_t table[SPELTMALLET_TABLE_BYTES])

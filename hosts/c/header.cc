@@ -1,7 +1,8 @@
-// The header from C++: it compiles without a warning, the helpers are there, and the door keeps its C name.
+// The header from C++: it compiles without a warning, the helpers are there, the one that makes a table fresh among them, and the door keeps
+// its C name.
 #include "speltmallet.h"
 
-static uint8_t table[SPELTMALLET_TABLE_BYTES] = SPELTMALLET_FRESH;
+static uint8_t table[SPELTMALLET_TABLE_BYTES];
 
 int32_t tick_from_cpp(uint8_t (&answer)[SPELTMALLET_ANSWER_BYTES]) {
     uint8_t tick[SPELTMALLET_REQUEST_BYTES];
@@ -10,7 +11,7 @@ int32_t tick_from_cpp(uint8_t (&answer)[SPELTMALLET_ANSWER_BYTES]) {
 }
 
 const char *helpers_from_cpp(uint8_t (&answer)[SPELTMALLET_ANSWER_BYTES]) {
-    speltmallet_reset(table);
+    speltmallet_fresh(table);
     if (speltmallet_running(table) != 0 || speltmallet_value(answer) != 0) {
         return speltmallet_operation_name(SPELTMALLET_OP_TICK);
     }

@@ -1,13 +1,14 @@
 /*
- * The door from C, as the firmware calls it: document 01's example run, the values of answers, what each sort of refusal leaves alone,
- * and the header's helpers. It prints a line for each check that fails and ends with status 1 if there is one.
+ * The door from C, as the firmware calls it: a fresh table, document 01's example run, the values of answers, the ready word, what each
+ * sort of refusal leaves alone, and the header's helpers. It prints a line for each check that fails and ends with status 1 if there is
+ * one.
  */
 #include "speltmallet.h"
 
 #include <stdio.h>
 #include <string.h>
 
-static uint8_t table[SPELTMALLET_TABLE_BYTES] = SPELTMALLET_FRESH;
+static uint8_t table[SPELTMALLET_TABLE_BYTES];
 static uint8_t request[SPELTMALLET_REQUEST_BYTES];
 static uint8_t answer[SPELTMALLET_ANSWER_BYTES];
 static int checks;
@@ -42,6 +43,11 @@ static void ask(const char *what, uint8_t operation, uint8_t object, uint8_t pri
     check(what, speltmallet_running(table), running);
 }
 
+/* The ready word has these bits. */
+static void check_ready_word(const char *what, uint32_t bits) {
+    check(what, (long)speltmallet_word(table + SPELTMALLET_KERNEL + SPELTMALLET_KERNEL_READY), (long)bits);
+}
+
 /* Document 01's example run, in the order of its records. */
 static void example_run(void) {
     ask("0 Create 1", SPELTMALLET_OP_CREATE, 1, 5, 2, 0, SPELTMALLET_DONE, 0, 1);
@@ -73,7 +79,9 @@ static void line(void) {
     ask("Pend, first in the line", SPELTMALLET_OP_PEND, 0, 0, SPELTMALLET_FOREVER, 0, SPELTMALLET_BLOCKED, 0, 1);
     ask("Pend, one ahead", SPELTMALLET_OP_PEND, 0, 0, SPELTMALLET_FOREVER, 0, SPELTMALLET_BLOCKED, 1, 0);
     check("place", table[SPELTMALLET_THREAD(1) + SPELTMALLET_THREAD_PLACE], 2);
+    check_ready_word("ready word, Init alone", 1);
     ask("Post for both", SPELTMALLET_OP_POST, 0, 0, 2, 0, SPELTMALLET_DONE, 0, 2);
+    check_ready_word("ready word, both of priority 5", 1 | 1 << 5);
 }
 
 /* A call that must leave the table alone and, where `untouched` says so, the answer area too. */
@@ -95,6 +103,7 @@ static void refused(const char *what, size_t table_len, size_t request_len, size
 
 static void refusals(void) {
     uint8_t *last = table + SPELTMALLET_TABLE_BYTES - 1;
+    uint8_t *ready = table + SPELTMALLET_KERNEL + SPELTMALLET_KERNEL_READY;
     speltmallet_request(request, SPELTMALLET_OP_DELETE, 0, 0, 0, 0);
     refused("Delete Init", 600, 12, 8, SPELTMALLET_BAD_OPERATION, 0);
     speltmallet_request(request, SPELTMALLET_OP_CREATE, 3, SPELTMALLET_TOP_PRIORITY + 1, 1, 0);
@@ -117,13 +126,40 @@ static void refusals(void) {
     *last = 1;
     refused("unsound table", 600, 12, 8, SPELTMALLET_BAD_TABLE, 1);
     *last = 0;
+    ready[0] = 1;
+    refused("ready word without a bit", 600, 12, 8, SPELTMALLET_BAD_TABLE, 1);
+    ready[0] = 0;
+    refused("ready word 0, as in tables saved earlier", 600, 12, 8, SPELTMALLET_BAD_TABLE, 1);
+    speltmallet_put_word(ready, 1 | 1 << 5 | (uint32_t)1 << SPELTMALLET_TOP_PRIORITY);
+    refused("ready word with another bit", 600, 12, 8, SPELTMALLET_BAD_TABLE, 1);
+    speltmallet_put_word(ready, 1 | 1 << 5);
     ask("sound again", SPELTMALLET_OP_LOCK, 0, 0, 0, 0, SPELTMALLET_DONE, 0, 2);
     check("lock count", table[SPELTMALLET_KERNEL + SPELTMALLET_KERNEL_LOCK], 1);
 }
 
+/* A fresh table is these bytes: by the function, by its other name, and by the macro where C has designators. */
+static void fresh(void) {
+#if defined(__STDC_VERSION__) && __STDC_VERSION__ >= 199901L
+    static const uint8_t by_macro[SPELTMALLET_TABLE_BYTES] = SPELTMALLET_FRESH;
+#endif
+    uint8_t by_hand[SPELTMALLET_TABLE_BYTES];
+    memset(by_hand, 0, sizeof by_hand);
+    by_hand[0] = by_hand[5] = by_hand[7] = by_hand[578] = 1;
+    by_hand[8] = by_hand[12] = 10;
+#if defined(__STDC_VERSION__) && __STDC_VERSION__ >= 199901L
+    check("fresh by the macro", memcmp(by_macro, by_hand, sizeof by_hand), 0);
+#endif
+    memset(table, 0xA5, sizeof table);
+    speltmallet_reset(table);
+    check("fresh by reset", memcmp(table, by_hand, sizeof by_hand), 0);
+    memset(table, 0xA5, sizeof table);
+    speltmallet_fresh(table);
+    check("fresh", memcmp(table, by_hand, sizeof by_hand), 0);
+    check_ready_word("ready word of a fresh table", 1);
+}
+
 /* The helpers, each by what the layout and the names above say. */
 static void helpers(void) {
-    static const uint8_t fresh[SPELTMALLET_TABLE_BYTES] = SPELTMALLET_FRESH;
     static const uint8_t bytes[SPELTMALLET_REQUEST_BYTES] = { 15, 7, 31, 0, 0x78, 0x56, 0x34, 0x12, 0xEF, 0xCD, 0xAB, 0x89 };
     memset(request, 0xA5, sizeof request);
     speltmallet_request(request, SPELTMALLET_OP_POST, 7, 31, 0x12345678UL, 0x89ABCDEFUL);
@@ -132,8 +168,6 @@ static void helpers(void) {
     check("value", speltmallet_value(bytes) == 0x12345678UL, 1);
     memset(table, 0xA5, sizeof table);
     check("running", speltmallet_running(table), 0xA5);
-    speltmallet_reset(table);
-    check("reset", memcmp(table, fresh, sizeof fresh), 0);
     check_text("code 1", speltmallet_code_name(SPELTMALLET_BLOCKED), "BLOCKED");
     check_text("code 0", speltmallet_code_name(SPELTMALLET_DONE), "DONE");
     check_text("code -1", speltmallet_code_name(SPELTMALLET_BAD_THREAD), "BAD_THREAD");
@@ -156,6 +190,7 @@ static void helpers(void) {
 
 int main(void) {
     helpers();
+    fresh();
     example_run();
     mail();
     line();

@@ -174,7 +174,7 @@ static void tick(struct printer *p, long now)
 
 static void start(struct printer *p)
 {
-    speltmallet_reset(p->table);
+    speltmallet_fresh(p->table);
     must(p, SPELTMALLET_OP_MAKE, CUT, 0, 0, 0);
     must(p, SPELTMALLET_OP_LOCK, 0, 0, 0, 0); /* nobody runs before all are there */
     must(p, SPELTMALLET_OP_CREATE, LEFT, LANE_PRIORITY, LANE_TURN, 0);

@@ -15,7 +15,8 @@ use Rattle.rules.specs.Table.{wordAt}
 use Rattle.laws.proofs.Counts.{below-at, below-of}
 use Rattle.layout.specs.Canon.{restZero}
 use Rattle.layout.proofs.Canonical.{rest-at, rest-of}
-use Rattle.canon.specs.Zero.{longAt, recordZero}
+use Rattle.words.specs.Long.{longAt}
+use Rattle.canon.specs.Zero.{recordZero}
 
 -- byte by byte
 module _ (t : List ℕ) (base : ℕ) where
@@ -67,21 +68,44 @@ module _ (t : List ℕ) where
       λ z. (zero-long base (λ r h. record-zeros t base z r (omega arith)), λ k l h. record-zeros t base z k h),
     )
 
-    -- of the first eight all but two as well
-    module _ (byte : (k : ℕ) → getD t k 0 < 256) where
-      but-two : longAt t base / 65536 ≡ 0 → (k : ℕ) → k < 6 → getD t (base + suc (suc k)) 0 ≡ 0
-      but-two e zero h = omega (arith, byte base, byte (base + 1))
-      but-two e (suc zero) h = omega (arith, byte base, byte (base + 1))
-      but-two e (suc (suc k)) h =
-          let a : base + suc (suc (suc (suc k))) ≡ base + 4 + k = omega arith in
-          rw a (word-zero (base + 4) (omega (arith, byte base, byte (base + 1))) k (omega arith))
+    -- of the first eight all but n as well, where a number says that those are zero
+    but-some : (n number : ℕ) → n ≤ 8 → (number ≡ 0) ↔ ((k : ℕ) → n ≤ k → k < 8 → getD t (base + k) 0 ≡ 0)
+        → ((number ≡ 0) × ((k : ℕ) → 8 ≤ k → k < recordLength → getD t (base + k) 0 ≡ 0)) ↔ (restZero n t base ≡ true)
+    but-some n number m says = (
+      λ z. rest-of n t base (λ k l h. elim (decLt k 8) [ yes q ↦ says .0 (z .0) k l q | no q ↦ z .1 k (omega arith) h ]),
+      λ z. (says .1 (λ k l h. rest-at n t base k l (omega arith) z), λ k l h. rest-at n t base k (omega arith) h z),
+    )
 
-      pub rest-is-zero : ((longAt t base / 65536 ≡ 0) × ((k : ℕ) → 8 ≤ k → k < recordLength → getD t (base + k) 0 ≡ 0)) ↔ (restZero t base ≡ true)
-      rest-is-zero = (
-        λ z. rest-of t base (λ k h. elim (decLt k 6) [ yes l ↦ but-two (z .0) k l | no l ↦ z .1 (suc (suc k)) (omega arith) (omega arith) ]),
-        λ z.
-            let at : (k : ℕ) → 2 ≤ k → k < recordLength → getD t (base + k) 0 ≡ 0 =
-            λ k l h. let e : k ≡ suc (suc (k - 2)) = omega arith in rw e (rest-at t base (k - 2) (omega arith) z) in
+    module _ (byte : (k : ℕ) → getD t k 0 < 256) where
+      -- what is left of eight bytes above the lowest two, and above the lowest six
+      past-two : (longAt t base / 65536 ≡ 0) ↔ ((k : ℕ) → 2 ≤ k → k < 8 → getD t (base + k) 0 ≡ 0)
+      past-two = (
+        λ e k l h. elim (decLt k 4) [
+          | yes q ↦ elim (decLt k 3) [
+            | yes m ↦ let a : k ≡ 2 = omega arith in rw a (omega (arith, byte base, byte (base + 1)))
+            | no m ↦ let a : k ≡ 3 = omega arith in rw a (omega (arith, byte base, byte (base + 1)))
+          ]
+          | no q ↦ let a : base + k ≡ base + 4 + (k - 4) = omega arith in rw a (word-zero (base + 4) (omega (arith, byte base, byte (base + 1))) (k - 4) (omega arith))
+        ],
+        λ at.
             let high = zero-word (base + 4) (λ r h. let a : base + 4 + r ≡ base + (4 + r) = omega arith in rw a (at (4 + r) (omega arith) (omega arith))) in
-            (omega (arith, byte base, byte (base + 1), at 2 (omega arith) (omega arith), at 3 (omega arith) (omega arith), high), λ k l h. at k (omega arith) h),
+            omega (arith, byte base, byte (base + 1), at 2 (omega arith) (omega arith), at 3 (omega arith) (omega arith), high),
       )
+
+      past-six : (longAt t base / 281474976710656 ≡ 0) ↔ ((k : ℕ) → 6 ≤ k → k < 8 → getD t (base + k) 0 ≡ 0)
+      past-six =
+          let six : base + 6 ≡ base + 4 + 2 = omega arith in
+          let seven : base + 7 ≡ base + 4 + 3 = omega arith in
+          let low : wordAt t base < 4294967296 = omega (arith, byte base, byte (base + 1), byte (base + 2), byte (base + 3)) in (
+            λ e k l h. elim (decLt k 7) [
+              | yes m ↦ let a : k ≡ 6 = omega arith in rw (a, six) (omega (arith, low, byte (base + 4), byte (base + 4 + 1)))
+              | no m ↦ let a : k ≡ 7 = omega arith in rw (a, seven) (omega (arith, low, byte (base + 4), byte (base + 4 + 1)))
+            ],
+            λ at. omega (arith, low, byte (base + 4), byte (base + 4 + 1), rw six at (at 6 (omega arith) (omega arith)), rw seven at (at 7 (omega arith) (omega arith))),
+          )
+
+      pub rest-is-zero : ((longAt t base / 65536 ≡ 0) × ((k : ℕ) → 8 ≤ k → k < recordLength → getD t (base + k) 0 ≡ 0)) ↔ (restZero 2 t base ≡ true)
+      rest-is-zero = but-some 2 (longAt t base / 65536) (omega arith) past-two
+
+      pub kernel-is-zero : ((longAt t base / 281474976710656 ≡ 0) × ((k : ℕ) → 8 ≤ k → k < recordLength → getD t (base + k) 0 ≡ 0)) ↔ (restZero 6 t base ≡ true)
+      kernel-is-zero = but-some 6 (longAt t base / 281474976710656) (omega arith) past-six

@@ -7,27 +7,13 @@ ghost use lib.ListN.{length, getD};
 ghost use Rattle.rules.specs.Board.{printer, recordLength, tableLength};
 ghost use Rattle.layout.specs.Bytes.{semsFrom, kernelFrom};
 ghost use Rattle.layout.specs.Canon.{waitCanon, outcomeCanon, headCanon, threadCanon, restZero, semCanon};
-ghost use Rattle.canon.specs.Zero.{longAt, recordZero};
+ghost use Rattle.canon.specs.Zero.{recordZero};
 use rules::KERNEL_FROM;
 use rules::RECORD;
 use rules::SEMAPHORES_FROM;
 use rules::field;
 
 // ZEROS: bytes are tested eight at a time
-
-fn wide(word: u32) -> u64
-    ensures { λ r. ⌜ (r ≡ word) × (r < 4294967296) ⌝ }
-{
-    word as u64
-}
-
-// Eight bytes as a number, from byte `at` on.
-fn long_at(t: &[u8], at: usize) -> u64
-    requires { ⌜ at + 8 ≤ length (now t) ⌝ }
-    ensures { λ r. ⌜ r ≡ longAt (now (t .entry)) at ⌝ }
-{
-    wide(words::word_at(t, at)) + 4294967296 * wide(words::word_at(t, at + 4))
-}
 
 // Is a number 0, and every byte past the first eight of the record that starts at byte `base`?
 fn zero_behind(t: &[u8], base: usize, first: u64) -> bool
@@ -36,7 +22,7 @@ fn zero_behind(t: &[u8], base: usize, first: u64) -> bool
 {
     let mut all = first;
     for q in 1..3usize {
-        all |= long_at(t, base + q * 8);
+        all |= words::long_at(t, base + q * 8);
     }
     all == 0
 }
@@ -47,15 +33,15 @@ pub fn thread_zero(t: &[u8], i: usize) -> bool
     ensures { λ r. ⌜ r ≡ recordZero (now (t .entry)) (i * recordLength) ⌝ }
 {
     let base = i * RECORD;
-    zero_behind(t, base, long_at(t, base))
+    zero_behind(t, base, words::long_at(t, base))
 }
 
 // Is every byte 0 past the first two of the record that starts at byte `base`?
 fn rest_zero(t: &[u8], base: usize) -> bool
     requires { ⌜ base + recordLength ≤ length (now t) ⌝ }
-    ensures { λ r. ⌜ r ≡ restZero (now (t .entry)) base ⌝ }
+    ensures { λ r. ⌜ r ≡ restZero 2 (now (t .entry)) base ⌝ }
 {
-    zero_behind(t, base, long_at(t, base) / 65536)
+    zero_behind(t, base, words::long_at(t, base) / 65536)
 }
 
 // THE RECORDS
@@ -118,10 +104,14 @@ pub fn sem_canon(t: &[u8], k: usize) -> bool
     rest_zero(t, base)
 }
 
-// The kernel's record.
+// The kernel's record: every byte 0 past the ready word, which ends with the sixth.
 pub fn kernel_canon(t: &[u8]) -> bool
     requires { ⌜ length (now t) ≡ tableLength printer ⌝ }
-    ensures { λ r. ⌜ r ≡ restZero (now (t .entry)) (kernelFrom printer) ⌝ }
+    ensures { λ r. ⌜ r ≡ restZero 6 (now (t .entry)) (kernelFrom printer) ⌝ }
 {
-    rest_zero(t, KERNEL_FROM)
+    zero_behind(
+        t,
+        KERNEL_FROM,
+        words::long_at(t, KERNEL_FROM) / 281474976710656,
+    )
 }

@@ -15,3 +15,4 @@ pub mod Records
 pub mod Tested
 pub mod Top
 pub mod Turns
+pub mod Word

@@ -163,3 +163,10 @@ line-suspended b t e = go (t .used) (t .suspended) (t .wait) e
     go true s (Receive n) e = refl
     go true s (Send k n) e = refl
     go true s (Semaphore k n) e = refl
+
+-- a thread in use that is neither suspended nor ready waits
+pub unready-waits : (t : Thread) → t .used ≡ true → t .suspended ≡ false → isReady t ≡ false → waiting (t .wait) ≡ true
+unready-waits t u n e = elim (test (waiting (t .wait))) [
+  | is w ↦ w
+  | isnt w ↦ absurd (clash (rw (u, n, w)) e)
+]

@@ -11,7 +11,8 @@ use lib.ListN.{length, List·getD-eq-default}
 use Rattle.rules.specs.Basic.{all, allBelow}
 use Rattle.rules.specs.Board.{Board, printer, mostCount, mostLock}
 use Rattle.rules.specs.State.{State, free, freeSem, at, semAt, caller, isReady}
-use Rattle.rules.specs.Table.{waitOf, outcomeOf, threadRow, threadOf, semRow, semOf, kernelRow, flat, encode, rows, decode}
+use Rattle.rules.specs.Lines.{bitsBelow, readyWord}
+use Rattle.rules.specs.Table.{waitOf, outcomeOf, threadRow, threadOf, semRow, semOf, kernelRow, flat, encodeWith, encode, rows, decode}
 use Rattle.rules.specs.Sound.{SoundThread, Sound, SoundTable}
 use Rattle.rules.specs.Test.{placeOk, freeOk, usedOk, threadOk, semOk, initOk, notAbove, kernelOk, sound, soundTable}
 use Rattle.rules.specs.Door.{fresh, freshTable}
@@ -125,5 +126,5 @@ tested-table b t = (
 )
 
 pub fresh-sound : soundTable printer (freshTable printer) ≡ true
-unfolding waitOf outcomeOf threadRow threadOf semRow semOf kernelRow flat encode rows decode placeOk freeOk usedOk threadOk semOk initOk kernelOk sound soundTable fresh freshTable
+unfolding waitOf outcomeOf threadRow threadOf semRow semOf kernelRow flat encodeWith encode bitsBelow readyWord rows decode placeOk freeOk usedOk threadOk semOk initOk kernelOk sound soundTable fresh freshTable
 fresh-sound = refl

@@ -1,21 +1,24 @@
 -- Tables that hold states: bytes written into one record of such a table make the table of the state with that record changed,
 -- and steps follow one another. Assumes nothing.
 use mathlib.Core.Path.{_≡_, refl, sym, ap, subst, _∙_}
-use mathlib.Core.List.{List}
+use mathlib.Core.List.{List, [], _∷_}
 use Prim.Native.Nat.{ℕ, _+_, _*_, _<_}
 use lib.ListN.{length, set, length-set}
 use lib.Seq.{set-set, set-getD}
 use Rattle.rules.specs.Board.{Board, recordLength}
 use Rattle.rules.specs.State.{State, On, free, at, edit, withThreads, withRunning, withLock}
-use Rattle.rules.specs.Table.{threadRow, semRow, kernelRow, encode, decode}
+use Rattle.rules.specs.Lines.{line, readyWord}
+use Rattle.rules.specs.Table.{wordAt, threadRow, semRow, kernelRow, encodeWith, encode, decode}
 use Rattle.rules.specs.declared.Thread.{Thread}
 use Rattle.rules.specs.declared.Sem.{Sem}
 use Rattle.laws.proofs.Members.{edit-same, length-edit}
-use Rattle.layout.specs.Bytes.{semsFrom, kernelFrom, Put, puts}
-use Rattle.layout.specs.Held.{Holds, Whole, Becomes, onThreads, onSems}
+use Rattle.laws.proofs.Word.{word-edit}
+use Rattle.layout.specs.Bytes.{semsFrom, kernelFrom, wordFrom, Put, putWord, puts}
+use Rattle.layout.specs.Held.{Holds, Whole, Becomes, Shows, Laid, Changes, onThreads, onSems}
 use Rattle.layout.proofs.Flat.{Within}
 use Rattle.layout.proofs.Records.{length-encode, thread-puts, sem-puts, kernel-puts}
-use Rattle.layout.proofs.RoundTrip.{on-decode, decode-encode}
+use Rattle.layout.proofs.RoundTrip.{on-decode, decode-with, decode-encode}
+use Rattle.layout.proofs.Canonical.{word-back}
 
 -- the state that a table says is one of its board
 pub said-on : (b : Board) (t : List ℕ) {s : State} → decode b t ≡ s → On b s
@@ -29,10 +32,14 @@ module _ {b : Board} {t : List ℕ} where
   holds-on h = said-on b t (h .says)
 
   pub holds-whole : {s : State} → Holds b t s → Whole b t
-  holds-whole h = record { long = ap length (h .bytes) ∙ length-encode (holds-on h); meaning = h .bytes ∙ ap encode (sym (h .says)) }
+  unfolding encode
+  holds-whole {s} h = record { long = ap length (h .bytes) ∙ length-encode (holds-on h) (readyWord (s .threads)); meaning = h .bytes ∙ ap encode (sym (h .says)) }
 
   pub whole-holds : Whole b t → Holds b t (decode b t)
   whole-holds w = holds-of (on-decode b t) (w .meaning)
+
+  pub whole-says : Whole b t → {s : State} → decode b t ≡ s → Holds b t s
+  whole-says w e = record { bytes = w .meaning ∙ ap encode e; says = e }
 
 module _ {b : Board} {t : List ℕ} where
   -- what is so of every state that a whole table may hold
@@ -79,26 +86,111 @@ module _ {b : Board} {t : List ℕ} (i : ℕ) (x : Thread) (is : (s : State) →
       becomes-same w (λ s h. let r = is s (h .says) in
       ap (λ ts. withThreads ts s) (sym (ap (set (s .threads) i) (sym (ap g r) ∙ e ∙ r) ∙ set-getD (s .threads) i free)))
 
+-- BUT FOR THE READY WORD
+
+module _ {b : Board} {t : List ℕ} where
+  pub shows-of : {s : State} → On b s → (word : ℕ) → t ≡ encodeWith word s → Shows b t s word
+  shows-of on word e = record { bytes = e; says = ap (decode b) e ∙ decode-with on word }
+
+  -- the word that is shown is the one that the table holds
+  pub shows-word : {s : State} {word : ℕ} → Shows b t s word → wordAt t (wordFrom b) ≡ word
+  shows-word {word = word} h = ap (λ l. wordAt l (wordFrom b)) (h .bytes) ∙ word-back (said-on b t (h .says)) word
+
+  pub shows-laid : {s : State} {word : ℕ} → Shows b t s word → Laid b t
+  shows-laid {word = word} h = record {
+    long = ap length (h .bytes) ∙ length-encode (said-on b t (h .says)) word;
+    meaning = h .bytes ∙ (λ j. encodeWith (sym (shows-word h) j) (sym (h .says) j));
+  }
+
+  pub laid-shows : Laid b t → Shows b t (decode b t) (wordAt t (wordFrom b))
+  laid-shows l = shows-of (on-decode b t) (wordAt t (wordFrom b)) (l .meaning)
+
+  -- a table that holds a state shows it with the word of its lines, and the other way round
+  pub holds-shows : {s : State} → Holds b t s → Shows b t s (readyWord (s .threads))
+  unfolding encode
+  holds-shows h = record { bytes = h .bytes; says = h .says }
+
+  pub shows-holds : {s : State} {word : ℕ} → Shows b t s word → word ≡ readyWord (s .threads) → Holds b t s
+  unfolding encode
+  shows-holds {s} h e = record { bytes = h .bytes ∙ ap (λ w. encodeWith w s) e; says = h .says }
+
+  pub whole-laid : Whole b t → Laid b t
+  whole-laid w = shows-laid (holds-shows (whole-holds w))
+
+  pub whole-word : Whole b t → wordAt t (wordFrom b) ≡ readyWord (decode b t .threads)
+  whole-word w = shows-word (holds-shows (whole-holds w))
+
+module _ {b : Board} {t : List ℕ} where
+  -- what is so of every state that a laid table may show
+  pub changes : {t′ : List ℕ} {rule : State → State} → Laid b t → ((s : State) (word : ℕ) → Shows b t s word → Shows b t′ (rule s) word) → Changes b t t′ rule
+  changes l f = record { laid = shows-laid (f _ _ (laid-shows l)); shows = f }
+
+  -- one change after the other
+  infixl 20 _⨟_
+  pub _⨟_ : {t′ t″ : List ℕ} {f g : State → State} → Changes b t t′ f → Changes b t′ t″ g → Changes b t t″ (λ s. g (f s))
+  p ⨟ q = record { laid = q .laid; shows = λ s w h. q .shows _ w (p .shows s w h) }
+
+  -- the same by another rule
+  pub changes-as : {t′ : List ℕ} {f g : State → State} → Changes b t t′ f → ((s : State) → On b s → f s ≡ g s) → Changes b t t′ g
+  changes-as {t′} p e = record { laid = p .laid; shows = λ s w h. subst (λ z. Shows b t′ z w) (e s (said-on b t (h .says))) (p .shows s w h) }
+
+  -- where the lines stay as they are, the word stays right, and is no other
+  pub changes-becomes : {t′ : List ℕ} {rule : State → State} → Whole b t → Changes b t t′ rule
+      → ((s : State) → Holds b t s → readyWord (rule s .threads) ≡ readyWord (s .threads)) → Becomes b t t′ rule
+  changes-becomes w c e = becomes w (λ s h. shows-holds (c .shows s (readyWord (s .threads)) (holds-shows h)) (sym (e s h)))
+
+  -- so does a change of one thread that leaves it in its line
+  pub edit-stays : {t′ : List ℕ} (i : ℕ) (g : Thread → Thread) → Whole b t → Changes b t t′ (onThreads (edit i g))
+      → ((s : State) → decode b t ≡ s → line (g (at (s .threads) i)) ≡ line (at (s .threads) i)) → Becomes b t t′ (onThreads (edit i g))
+  edit-stays i g w c k = changes-becomes w c (λ s h. word-edit (s .threads) i g (k s (h .says)))
+
+  pub becomes-changes : {t′ : List ℕ} {rule : State → State} → Whole b t → Becomes b t t′ rule
+      → ((s : State) → readyWord (rule s .threads) ≡ readyWord (s .threads)) → Changes b t t′ rule
+  becomes-changes {t′} {rule} w p e =
+      changes (whole-laid w) (λ s word r.
+      let right : word ≡ readyWord (s .threads) = sym (shows-word r) ∙ whole-word w ∙ ap (λ z. readyWord (z .threads)) (r .says) in
+      subst (λ v. Shows b t′ (rule s) v) (e s ∙ sym right) (holds-shows (p .holds s (shows-holds r right))))
+
+-- two tables that a writer may leave are one
+pub changes-one : {b : Board} {t t′ t″ : List ℕ} {rule : State → State} → Laid b t → Changes b t t′ rule → Changes b t t″ rule → t′ ≡ t″
+changes-one l p q = p .shows _ _ (laid-shows l) .bytes ∙ sym (q .shows _ _ (laid-shows l) .bytes)
+
 -- WRITES INTO ONE RECORD
 
+module _ {b : Board} {t t′ : List ℕ} where
+  pub thread-changed : Laid b t → (i : ℕ) (g : Thread → Thread) (ps : List Put) → i < b .threads → Within recordLength ps
+      → ((x : Thread) → puts (threadRow x) 0 ps ≡ threadRow (g x)) → t′ ≡ puts t (i * recordLength) ps → Changes b t t′ (onThreads (edit i g))
+  thread-changed l i g ps h q e p =
+      changes l (λ s w r. let on = said-on b t (r .says) in
+      shows-of (record { threads = length-edit (s .threads) i g ∙ on .threads; sems = on .sems }) w
+      (p ∙ ap (λ l. puts l (i * recordLength) ps) (r .bytes) ∙ thread-puts on w i g ps h q (e _)))
+
+  pub word-written : (v : ℕ) → t′ ≡ puts t (kernelFrom b) (putWord 2 v ∷ []) → (s : State) (word : ℕ) → Shows b t s word → Shows b t′ s v
+  unfolding puts kernelRow
+  word-written v p s word r =
+      let on = said-on b t (r .says) in
+      shows-of on v (p ∙ ap (λ l. puts l (kernelFrom b) (putWord 2 v ∷ [])) (r .bytes) ∙ kernel-puts on word (s .running) (s .lock) v (putWord 2 v ∷ []) refl)
+
 module _ {b : Board} {t t′ : List ℕ} (w : Whole b t) where
+  -- what is written leaves the thread in its line
   pub thread-written : (i : ℕ) (g : Thread → Thread) (ps : List Put) → i < b .threads → Within recordLength ps
-      → ((x : Thread) → puts (threadRow x) 0 ps ≡ threadRow (g x)) → t′ ≡ puts t (i * recordLength) ps → Becomes b t t′ (onThreads (edit i g))
-  thread-written i g ps h q e p =
-      becomes w (λ s r. let on = holds-on r in
-      holds-of (record { threads = length-edit (s .threads) i g ∙ on .threads; sems = on .sems })
-      (p ∙ ap (λ l. puts l (i * recordLength) ps) (r .bytes) ∙ thread-puts on i g ps h q (e _)))
+      → ((x : Thread) → puts (threadRow x) 0 ps ≡ threadRow (g x)) → ((x : Thread) → line (g x) ≡ line x) → t′ ≡ puts t (i * recordLength) ps
+      → Becomes b t t′ (onThreads (edit i g))
+  thread-written i g ps h q e k p =
+      edit-stays i g w (thread-changed (whole-laid w) i g ps h q e p) (λ s d. k (at (s .threads) i))
 
   pub sem-written : (k : ℕ) (e : Sem) (ps : List Put) → k < b .sems → Within recordLength ps
       → ((x : Sem) → puts (semRow x) 0 ps ≡ semRow e) → t′ ≡ puts t (semsFrom b + k * recordLength) ps → Becomes b t t′ (onSems (λ es. set es k e))
   sem-written k e ps h q f p =
-      becomes w (λ s r. let on = holds-on r in
-      holds-of (record { threads = on .threads; sems = length-set (s .sems) k e ∙ on .sems })
-      (p ∙ ap (λ l. puts l (semsFrom b + k * recordLength) ps) (r .bytes) ∙ sem-puts on k e ps h q (f _)))
+      changes-becomes w (changes (whole-laid w) (λ s v r. let on = said-on b t (r .says) in
+      shows-of (record { threads = on .threads; sems = length-set (s .sems) k e ∙ on .sems }) v
+      (p ∙ ap (λ l. puts l (semsFrom b + k * recordLength) ps) (r .bytes) ∙ sem-puts on v k e ps h q (f _))))
+      (λ s r. refl)
 
-  pub kernel-written : (f g : ℕ → ℕ) (ps : List Put) → ((r n : ℕ) → puts (kernelRow r n) 0 ps ≡ kernelRow (f r) (g n))
+  pub kernel-written : (f g : ℕ → ℕ) (ps : List Put) → ((r n v : ℕ) → puts (kernelRow r n v) 0 ps ≡ kernelRow (f r) (g n) v)
       → t′ ≡ puts t (kernelFrom b) ps → Becomes b t t′ (λ s. withRunning (f (s .running)) (withLock (g (s .lock)) s))
   kernel-written f g ps e p =
-      becomes w (λ s r. let on = holds-on r in
-      holds-of (record { threads = on .threads; sems = on .sems })
-      (p ∙ ap (λ l. puts l (kernelFrom b) ps) (r .bytes) ∙ kernel-puts on _ _ ps (e _ _)))
+      changes-becomes w (changes (whole-laid w) (λ s v r. let on = said-on b t (r .says) in
+      shows-of (record { threads = on .threads; sems = on .sems }) v
+      (p ∙ ap (λ l. puts l (kernelFrom b) ps) (r .bytes) ∙ kernel-puts on v _ _ v ps (e _ _ _))))
+      (λ s r. refl)

@@ -5,9 +5,10 @@ use Prim.Native.Nat.{ℕ}
 use lib.ListN.{length}
 use Rattle.rules.specs.Board.{Board, tableLength}
 use Rattle.rules.specs.State.{State, withThreads, withSems}
-use Rattle.rules.specs.Table.{encode, decode}
+use Rattle.rules.specs.Table.{wordAt, encodeWith, encode, decode}
 use Rattle.rules.specs.declared.Thread.{Thread}
 use Rattle.rules.specs.declared.Sem.{Sem}
+use Rattle.layout.specs.Bytes.{wordFrom}
 
 -- the table's bytes are the state's, and the state is what they say
 pub record Holds (b : Board) (t : List ℕ) (s : State) : Type 0 where
@@ -23,6 +24,23 @@ pub record Whole (b : Board) (t : List ℕ) : Type 0 where
 pub record Becomes (b : Board) (before after : List ℕ) (rule : State → State) : Type 0 where
   pub whole : Whole b after
   pub holds : (s : State) → Holds b before s → Holds b after (rule s)
+
+-- BUT FOR THE READY WORD: while a thread goes from one line to another, the table's ready word is not yet that of its lines
+
+-- the table's bytes are the state's, with that ready word, and the state is what they say
+pub record Shows (b : Board) (t : List ℕ) (s : State) (word : ℕ) : Type 0 where
+  pub bytes : t ≡ encodeWith word s
+  pub says : decode b t ≡ s
+
+-- the table shows the state that it says, with the ready word that it holds
+pub record Laid (b : Board) (t : List ℕ) : Type 0 where
+  pub long : length t ≡ tableLength b
+  pub meaning : t ≡ encodeWith (wordAt t (wordFrom b)) (decode b t)
+
+-- a table that showed a state shows what a rule makes of that state, with the same ready word
+pub record Changes (b : Board) (before after : List ℕ) (rule : State → State) : Type 0 where
+  pub laid : Laid b after
+  pub shows : (s : State) (word : ℕ) → Shows b before s word → Shows b after (rule s) word
 
 -- a rule of the threads alone, and of the semaphores alone
 abbrev pub onThreads : (List Thread → List Thread) → State → State

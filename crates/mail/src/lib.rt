@@ -94,7 +94,7 @@ fn empty_mailbox(t: &mut [u8], r: usize)
     requires { ⌜ (r < printer .threads) × Whole printer (now t) ⌝ }
     ensures { λ _. ⌜ Becomes printer (now (t .entry)) (now (t .exit)) (onThreads (emptied r)) ⌝ }
 {
-    let line = lines::senders_line(r as u8);
+    let line = marks::senders_line(r as u8);
     if lines::line_length(t, line) == 0 {
         records::set_mail(t, r, false, 0);
     } else {

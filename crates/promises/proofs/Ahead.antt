@@ -12,7 +12,7 @@ use Rattle.rules.specs.Basic.{if_then_else_, bit, count}
 use Rattle.rules.specs.Board.{Board}
 use Rattle.rules.specs.State.{State, caller}
 use Rattle.rules.specs.Lines.{Line, nowhere, waiters, senders, same, waitLine, inLine, lineLength}
-use Rattle.rules.specs.Table.{kindOf, objectOf, threadRow, encode, rows, decode}
+use Rattle.rules.specs.Table.{kindOf, objectOf, threadRow, encodeWith, encode, rows, decode}
 use Rattle.rules.specs.Answers.{codeOf, valueOf}
 use Rattle.rules.specs.Waiting.{Step, refuse, accept, ahead, block, mayNotWait, neverWait, waitCounter, mustWait}
 use Rattle.rules.specs.Threads.{doYield, doCreate, doDelete, doSet, doSuspend, doResume, doDelay, breakOff, doCancel}
@@ -61,7 +61,7 @@ module _ (kind object : ℕ) (l : Line) (same-test : (t : Thread) → waitsFor k
   counted (t ∷ ts) = omega (arith, ap bit (same-test t), counted ts)
 
   in-line : (b : Board) (t : List ℕ) → SoundTable b t → lineLength l (decode b t .threads) ≡ already b t kind object
-  unfolding encode
+  unfolding encodeWith encode
   in-line b t σ =
       let ts = decode b t .threads in
       let all : rows (length ts) t ≡ map threadRow ts = ap (rows (length ts)) (σ .meaning) ∙ rows-flat threadRow thread-wide ts _ in

@@ -5,6 +5,7 @@ pub mod Exactly
 pub mod Ahead
 pub mod First
 pub mod Second
+pub mod Word
 pub mod Third
 pub mod Figures
 pub mod Computed

@@ -10,6 +10,7 @@ use lib.IntN.{pos, negsuc}
 use lib.ListN.{length, getD}
 use Rattle.rules.specs.Board.{Board, printer}
 use Rattle.rules.specs.State.{State, On}
+use Rattle.rules.specs.Lines.{readyWord}
 use Rattle.rules.specs.Table.{wordBytes, encode, decode}
 use Rattle.rules.specs.Answers.{areaLength, areaOf}
 use Rattle.rules.specs.Requests.{decodeRequest}
@@ -34,7 +35,8 @@ use Rattle.promises.proofs.First.{served}
 
 -- the table of a sound state is sound
 pub encode-sound : (b : Board) (s : State) → On b s → Sound s → SoundTable b (encode s)
-encode-sound b s on σ = record { long = length-encode on; meaning = ap encode (sym (decode-encode on)); state = rw (decode-encode on) σ }
+unfolding encode
+encode-sound b s on σ = record { long = length-encode on (readyWord (s .threads)); meaning = ap encode (sym (decode-encode on)); state = rw (decode-encode on) σ }
 
 -- what a call makes of a sound table
 pub data Next (b : Board) (t after : List ℕ) : Type 0 where

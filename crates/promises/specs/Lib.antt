@@ -3,6 +3,7 @@ pub mod Refusals
 pub mod Narrowed
 pub mod Malformed
 pub mod Ahead
+pub mod Word
 pub mod Demand1
 pub mod Demand2
 pub mod Demand3

@@ -4,16 +4,19 @@
 // Every public function promises for all states at once. One that reads gives what the table says: for the state `s` with
 // `decode printer (now t) ≡ s`, whatever the bytes are. One that writes asks for a whole table, which holds the state that
 // it says, and `Becomes` says of the rule in its last place that a table that held `s` now holds what the rule makes of `s`;
-// the table is whole again. Only the bytes that change are written.
+// the table is whole again. Where a thread's line may change, `Changes` says the same of a table but for its ready word, which is
+// as it was: crate `ready` mends it. Only the bytes that change are written.
 ghost use mathlib.Core.Path.{_≡_};
-ghost use Prim.Native.Nat.{_<_};
+ghost use Prim.Native.Nat.{ℕ, _*_, _<_};
 ghost use lib.ListN.{length, set};
 ghost use Rattle.rules.specs.Basic.{bit};
-ghost use Rattle.rules.specs.Board.{printer, tableLength};
+ghost use Rattle.rules.specs.Board.{printer, recordLength, tableLength};
 ghost use Rattle.rules.specs.State.{State, free, at, semAt, edit, withPlace, withWait, withCounter, withSuspended, withOutcome, withMail, withSettings, withRunning, withLock};
-ghost use Rattle.rules.specs.Table.{kindOf, objectOf, waitOf, outcomeByte, outcomeOf, decode};
+ghost use Rattle.rules.specs.Table.{kindOf, objectOf, waitOf, outcomeByte, outcomeOf, wordAt, decode};
 ghost use Rattle.records.specs.Fields.{withUsed};
-ghost use Rattle.layout.specs.Held.{Whole, Becomes, onThreads, onSems};
+ghost use Rattle.layout.specs.Bytes.{wordFrom};
+ghost use Rattle.layout.specs.Held.{Whole, Becomes, Shows, Laid, Changes, onThreads, onSems};
+ghost use Rattle.words.specs.Long.{longAt};
 use rules::Outcome;
 use rules::RECORD;
 use rules::SEMAPHORES_FROM;
@@ -36,6 +39,8 @@ pub use waits::is_waiting;
 const RUNNING: usize = rules::KERNEL_FROM + field::RUNNING;
 
 const LOCK: usize = rules::KERNEL_FROM + field::LOCK;
+
+const READY_WORD: usize = rules::KERNEL_FROM + field::READY_WORD;
 
 // FIELDS
 
@@ -149,6 +154,14 @@ pub fn load_thread(t: &[u8], i: usize) -> Thread
     }
 }
 
+// The first eight bytes of thread `i`'s record, as a number.
+pub fn head(t: &[u8], i: usize) -> u64
+    requires { ⌜ (i < printer .threads) × (length (now t) ≡ tableLength printer) ⌝ }
+    ensures { λ r. ⌜ r ≡ longAt (now (t .entry)) (i * recordLength) ⌝ }
+{
+    words::long_at(t, i * RECORD)
+}
+
 // Thread `i`, by the number that a request gives: one out of range reads as a free record.
 pub fn thread_at(t: &[u8], i: u8) -> Thread
     requires { ⌜ length (now t) ≡ tableLength printer ⌝ }
@@ -177,17 +190,6 @@ pub fn set_counter(t: &mut [u8], i: usize, counter: u32)
     words::put_word(t, i * RECORD + field::COUNTER, counter);
 }
 
-// The wait of thread `i`: its kind, its object and its counter.
-pub fn set_wait(t: &mut [u8], i: usize, w: Wait)
-    requires { ⌜ (i < printer .threads) × Whole printer (now t) ⌝ }
-    ensures { λ _. ⌜ Becomes printer (now (t .entry)) (now (t .exit)) (onThreads (edit i (withWait w))) ⌝ }
-{
-    let base = i * RECORD;
-    t[base + field::KIND] = kind_of(w);
-    t[base + field::OBJECT] = object_of(w);
-    words::put_word(t, base + field::COUNTER, counter_of(w));
-}
-
 // The outcome of thread `i`, with its parcel.
 pub fn set_outcome(t: &mut [u8], i: usize, o: Outcome, parcel: u32)
     requires { ⌜ (i < printer .threads) × Whole printer (now t) ⌝ }
@@ -208,18 +210,31 @@ pub fn set_mail(t: &mut [u8], i: usize, full: bool, value: u32)
     words::put_word(t, base + field::VALUE, value);
 }
 
+// WHAT A THREAD'S LINE GOES BY
+
+// The wait of thread `i`: its kind, its object and its counter.
+pub fn set_wait(t: &mut [u8], i: usize, w: Wait)
+    requires { ⌜ (i < printer .threads) × Laid printer (now t) ⌝ }
+    ensures { λ _. ⌜ Changes printer (now (t .entry)) (now (t .exit)) (onThreads (edit i (withWait w))) ⌝ }
+{
+    let base = i * RECORD;
+    t[base + field::KIND] = kind_of(w);
+    t[base + field::OBJECT] = object_of(w);
+    words::put_word(t, base + field::COUNTER, counter_of(w));
+}
+
 // Whether thread `i` is suspended.
 pub fn set_suspended(t: &mut [u8], i: usize, suspended: bool)
-    requires { ⌜ (i < printer .threads) × Whole printer (now t) ⌝ }
-    ensures { λ _. ⌜ Becomes printer (now (t .entry)) (now (t .exit)) (onThreads (edit i (withSuspended suspended))) ⌝ }
+    requires { ⌜ (i < printer .threads) × Laid printer (now t) ⌝ }
+    ensures { λ _. ⌜ Changes printer (now (t .entry)) (now (t .exit)) (onThreads (edit i (withSuspended suspended))) ⌝ }
 {
     t[i * RECORD + field::SUSPENDED] = flag(suspended);
 }
 
 // The settings of thread `i`: its priority and its turn.
 pub fn set_settings(t: &mut [u8], i: usize, priority: u8, turn: u32)
-    requires { ⌜ (i < printer .threads) × Whole printer (now t) ⌝ }
-    ensures { λ _. ⌜ Becomes printer (now (t .entry)) (now (t .exit)) (onThreads (edit i (withSettings priority turn))) ⌝ }
+    requires { ⌜ (i < printer .threads) × Laid printer (now t) ⌝ }
+    ensures { λ _. ⌜ Changes printer (now (t .entry)) (now (t .exit)) (onThreads (edit i (withSettings priority turn))) ⌝ }
 {
     let base = i * RECORD;
     t[base + field::PRIORITY] = priority;
@@ -228,8 +243,8 @@ pub fn set_settings(t: &mut [u8], i: usize, priority: u8, turn: u32)
 
 // Whether record `i` is in use.
 fn set_used(t: &mut [u8], i: usize, used: bool)
-    requires { ⌜ (i < printer .threads) × Whole printer (now t) ⌝ }
-    ensures { λ _. ⌜ Becomes printer (now (t .entry)) (now (t .exit)) (onThreads (edit i (withUsed used))) ⌝ }
+    requires { ⌜ (i < printer .threads) × Laid printer (now t) ⌝ }
+    ensures { λ _. ⌜ Changes printer (now (t .entry)) (now (t .exit)) (onThreads (edit i (withUsed used))) ⌝ }
 {
     t[i * RECORD + field::USED] = flag(used);
 }
@@ -237,23 +252,23 @@ fn set_used(t: &mut [u8], i: usize, used: bool)
 // Thread `i` becomes `th`.
 pub fn store_thread(t: &mut [u8], i: usize, th: Thread)
     requires { ⌜ (i < printer .threads) × Whole printer (now t) ⌝ }
-    ensures { λ _. ⌜ Becomes printer (now (t .entry)) (now (t .exit)) (onThreads (edit i (λ x. th))) ⌝ }
+    ensures { λ _. ⌜ Changes printer (now (t .entry)) (now (t .exit)) (onThreads (edit i (λ x. th))) ⌝ }
 {
     let w = th.wait;
     let o = th.outcome;
+    set_place(t, i, th.place);
+    set_mail(t, i, th.full, th.value);
+    set_outcome(t, i, o, th.parcel);
     set_used(t, i, th.used);
     set_settings(t, i, th.priority, th.turn);
     set_suspended(t, i, th.suspended);
     set_wait(t, i, w);
-    set_place(t, i, th.place);
-    set_mail(t, i, th.full, th.value);
-    set_outcome(t, i, o, th.parcel);
 }
 
 // Record `i` becomes free.
 pub fn free_thread(t: &mut [u8], i: usize)
     requires { ⌜ (i < printer .threads) × Whole printer (now t) ⌝ }
-    ensures { λ _. ⌜ Becomes printer (now (t .entry)) (now (t .exit)) (onThreads (edit i (λ x. free))) ⌝ }
+    ensures { λ _. ⌜ Changes printer (now (t .entry)) (now (t .exit)) (onThreads (edit i (λ x. free))) ⌝ }
 {
     store_thread(t, i, FREE);
 }
@@ -314,4 +329,20 @@ pub fn set_lock(t: &mut [u8], n: u8)
     ensures { λ _. ⌜ Becomes printer (now (t .entry)) (now (t .exit)) (withLock n) ⌝ }
 {
     t[LOCK] = n;
+}
+
+// The ready word.
+pub fn word(t: &[u8]) -> u32
+    requires { ⌜ length (now t) ≡ tableLength printer ⌝ }
+    ensures { λ r. ⌜ r ≡ wordAt (now (t .entry)) (wordFrom printer) ⌝ }
+{
+    words::word_at(t, READY_WORD)
+}
+
+// The ready word becomes `word`.
+pub fn set_word(t: &mut [u8], word: u32)
+    requires { ⌜ Laid printer (now t) ⌝ }
+    ensures { λ _. ⌜ ((s : State) (w : ℕ) → Shows printer (now (t .entry)) s w → Shows printer (now (t .exit)) s word) ⌝ }
+{
+    words::put_word(t, READY_WORD, word);
 }

@@ -24,6 +24,7 @@ pub fn fresh() -> [u8; rules::TABLE]
     t[rules::field::OUTCOME] = 1;
     t[rules::field::TURN] = 10;
     t[rules::field::COUNTER] = 10;
+    t[rules::KERNEL_FROM + rules::field::READY_WORD] = 1;
     t
 }
 

@@ -1,7 +1,7 @@
 -- The definitions that a run through the door computes with, in one list: to unfold `behindTheDoor` is to unfold them all.
 -- Assumes nothing.
-use Rattle.rules.specs.Lines.{leave, join, move, topBelow, top, settle}
-use Rattle.rules.specs.Table.{waitOf, outcomeOf, threadRow, threadOf, semRow, semOf, kernelRow, flat, encode, rows, decode}
+use Rattle.rules.specs.Lines.{leave, join, move, topBelow, top, settle, bitsBelow, readyWord}
+use Rattle.rules.specs.Table.{waitOf, outcomeOf, threadRow, threadOf, semRow, semOf, kernelRow, flat, encodeWith, encode, rows, decode}
 use Rattle.rules.specs.Test.{placeOk, freeOk, usedOk, threadOk, semOk, initOk, kernelOk, sound, soundTable}
 use Rattle.rules.specs.Answers.{areaOf}
 use Rattle.rules.specs.Requests.{requestOf, decodeRequest}
@@ -14,5 +14,5 @@ use Rattle.rules.specs.Steps.{step}
 use Rattle.rules.specs.Door.{serveDecoded, door, fresh, freshTable, tableAfter}
 
 unfoldable pub behindTheDoor : Unit {0}
-unfolding leave join move topBelow top settle waitOf outcomeOf threadRow threadOf semRow semOf kernelRow flat encode rows decode placeOk freeOk usedOk threadOk semOk initOk kernelOk sound soundTable areaOf requestOf decodeRequest endWait serve block mustWait doYield doCreate deleted doDelete doSet doSuspend doResume doDelay breakOff doCancel delivered doSend doSendFromInterrupt emptied doReceive doMake doDrop doPend doAbort posted doPost doPostFromInterrupt doLock doUnlock charge charged countDown timeouts doTick doOutcome step serveDecoded door fresh freshTable tableAfter
+unfolding leave join move topBelow top settle bitsBelow readyWord waitOf outcomeOf threadRow threadOf semRow semOf kernelRow flat encodeWith encode rows decode placeOk freeOk usedOk threadOk semOk initOk kernelOk sound soundTable areaOf requestOf decodeRequest endWait serve block mustWait doYield doCreate deleted doDelete doSet doSuspend doResume doDelay breakOff doCancel delivered doSend doSendFromInterrupt emptied doReceive doMake doDrop doPend doAbort posted doPost doPostFromInterrupt doLock doUnlock charge charged countDown timeouts doTick doOutcome step serveDecoded door fresh freshTable tableAfter
 behindTheDoor = tt

@@ -2,9 +2,9 @@
 -- bytes and the door, what the trace then says line by line, and what some bytes of the table hold afterwards.
 use mathlib.Core.Path.{_≡_}
 use mathlib.Core.List.{List, [], _∷_, _++_, map}
-use Prim.Native.Nat.{ℕ, zero, suc, pred, _+_, _*_}
+use Prim.Native.Nat.{ℕ, zero, suc, pred, _+_, _*_, _^_}
 use lib.IntN.{ℤ, pos, negsuc}
-use lib.ListN.{length, take, drop}
+use lib.ListN.{length, take, drop, replicate}
 use Rattle.rules.specs.Board.{printer, recordLength}
 use Rattle.rules.specs.Table.{wordBytes}
 use Rattle.rules.specs.Door.{freshTable, tableAfter}
@@ -20,6 +20,9 @@ create i p n = ask 1 i p n 0
 
 abbrev delete : ℕ → List ℕ
 delete i = ask 2 i 0 0 0
+
+abbrev set : ℕ → ℕ → ℕ → List ℕ
+set i p n = ask 3 i p n 0
 
 abbrev suspend : ℕ → List ℕ
 suspend i = ask 4 i 0 0 0
@@ -87,14 +90,18 @@ minus k r = record { code = negsuc (pred k); value = 0; running = r }
 
 -- CASES
 
--- bytes that a thread's record holds from an offset on
+-- bytes that a record of the table holds from an offset on
 pub record Held : Type 0 where
-  pub thread : ℕ
+  pub index : ℕ
   pub offset : ℕ
   pub bytes : List ℕ
 
 abbrev held : ℕ → ℕ → List ℕ → Held
-held i k bs = record { thread = i; offset = k; bytes = bs }
+held i k bs = record { index = i; offset = k; bytes = bs }
+
+-- order 6: the ready word, and the kernel's bytes behind it
+abbrev heldWord : ℕ → Held
+heldWord word = held (printer .threads + printer .sems) 2 (wordBytes word ++ replicate 18 0)
 
 pub record Case : Type 0 where
   pub asked : List (List ℕ)
@@ -150,7 +157,7 @@ table =
     ∷ caseHolding
     (make 0 0 ∷ create 1 5 5 ∷ pend 0 100000 ∷ suspend 1 ∷ post 0 1 ∷ outcome 1 ∷ [])
     (done 0 ∷ done 1 ∷ blocked 0 ∷ done 0 ∷ done 0 ∷ done 0 ∷ [])
-    (held 1 2 (1 ∷ 0 ∷ 0 ∷ 0 ∷ []) ∷ [])
+    (held 1 2 (1 ∷ 0 ∷ 0 ∷ 0 ∷ []) ∷ heldWord 1 ∷ [])
     ∷ case
     (make 0 0 ∷ create 1 5 5 ∷ pend 0 100000 ∷ suspend 1 ∷ post 0 1 ∷ resume 1 ∷ [])
     (done 0 ∷ done 1 ∷ blocked 0 ∷ done 0 ∷ done 0 ∷ done 1 ∷ [])
@@ -159,7 +166,10 @@ table =
     (create 1 5 2 ∷ create 2 5 3 ∷ tick ∷ create 3 9 1 ∷ tick ∷ tick ∷ delete 3 ∷ tick ∷ tick ∷ tick ∷ tick ∷ [])
     (done 1 ∷ done 1 ∷ done 1 ∷ done 3 ∷ done 3 ∷ done 3 ∷ done 1 ∷ done 2 ∷ done 2 ∷ done 2 ∷ done 1 ∷ [])
     -- "(11) Lock, Lock, Unlock: the outranking thread still waits": and a second Unlock lets it run
-    ∷ case (create 1 5 2 ∷ lockOn ∷ lockOn ∷ create 2 9 2 ∷ unlock ∷ unlock ∷ []) (done 1 ∷ done 1 ∷ done 1 ∷ done 1 ∷ done 1 ∷ done 2 ∷ [])
+    ∷ caseHolding
+    (create 1 5 2 ∷ lockOn ∷ lockOn ∷ create 2 9 2 ∷ unlock ∷ unlock ∷ [])
+    (done 1 ∷ done 1 ∷ done 1 ∷ done 1 ∷ done 1 ∷ done 2 ∷ [])
+    (heldWord (1 + 2 ^ 5 + 2 ^ 9) ∷ [])
     -- "(12) Delete 0 is −5, Delete 16 is −1"
     ∷ case (delete 0 ∷ delete 16 ∷ delete 15 ∷ []) (minus 5 0 ∷ minus 1 0 ∷ minus 1 0 ∷ [])
     -- what the twelve leave open. A timed-out waiter is out of its line, and the next unit goes to the waiter behind it
@@ -208,6 +218,16 @@ table =
     (threeWait ++ (done 0 ∷ done 0 ∷ minus 5 0 ∷ done 0 ∷ minus 5 0 ∷ done 1 ∷ gives 96 1 ∷ []))
     -- no sum wraps: with count 1 and nobody waiting, the largest number is too many
     ∷ case (make 0 1 ∷ post 0 4294967295 ∷ post 0 99 ∷ post 0 98 ∷ pend 0 0 ∷ []) (done 0 ∷ minus 5 0 ∷ minus 5 0 ∷ done 0 ∷ gives 98 0 ∷ [])
+    -- order 6: "A fresh table now holds 1 there."
+    ∷ caseHolding [] [] (heldWord 1 ∷ [])
+    -- "bit p set exactly when ready line p has a member": two of priority 31, of whom one waits; the other then waits too
+    ∷ caseHolding (create 1 31 5 ∷ create 2 31 5 ∷ delay 9 ∷ []) (done 1 ∷ done 1 ∷ blocked 2 ∷ []) (heldWord (1 + 2 ^ 31) ∷ [])
+    ∷ caseHolding (create 1 31 5 ∷ create 2 31 5 ∷ delay 9 ∷ delay 9 ∷ []) (done 1 ∷ done 1 ∷ blocked 2 ∷ blocked 0 ∷ []) (heldWord 1 ∷ [])
+    -- a change of priority takes the bit along; a suspended thread has none, whatever its priority becomes
+    ∷ caseHolding (create 1 7 5 ∷ set 1 8 5 ∷ []) (done 1 ∷ done 1 ∷ []) (heldWord (1 + 2 ^ 8) ∷ [])
+    ∷ caseHolding (create 1 7 5 ∷ suspend 1 ∷ set 1 8 5 ∷ []) (done 1 ∷ done 0 ∷ done 0 ∷ []) (heldWord 1 ∷ [])
+    -- a wait that ends by time brings the bit back
+    ∷ caseHolding (create 1 7 5 ∷ delay 1 ∷ tick ∷ []) (done 1 ∷ blocked 0 ∷ done 1 ∷ []) (heldWord (1 + 2 ^ 7) ∷ [])
     ∷ []
 
 -- WHAT IS GIVEN, WHAT IS EXPECTED
@@ -221,7 +241,7 @@ joined [] = []
 joined (r ∷ rs) = r ++ joined rs
 
 unfoldable pub bytesAt : List ℕ → Held → List ℕ
-bytesAt t h = take (length (h .bytes)) (drop (h .thread * recordLength + h .offset) t)
+bytesAt t h = take (length (h .bytes)) (drop (h .index * recordLength + h .offset) t)
 
 unfoldable pub given : Case → Shown
 given c =

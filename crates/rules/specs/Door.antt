@@ -52,6 +52,7 @@ fresh b = record {
   lock = 0;
 }
 
+-- order 6: "A fresh table now holds 1 there", where the ready word is
 unfoldable pub freshTable : Board → List ℕ
 freshTable b = encode (fresh b)
 

@@ -2,7 +2,7 @@
 -- A thread's own record says which line it stands in; there are no lists of lines.
 use mathlib.Core.Bool.{Bool, false, _&&_}
 use mathlib.Core.List.{List, map}
-use Prim.Native.Nat.{ℕ, zero, suc, pred}
+use Prim.Native.Nat.{ℕ, zero, suc, pred, _+_, _^_}
 use lib.Dec.{eqb, ltb}
 use lib.ListN.{length}
 use Rattle.rules.specs.Basic.{if_then_else_, count, find}
@@ -95,3 +95,17 @@ top ts = topBelow (suc topPriority) ts
 -- it doesn't change."
 unfoldable pub settle : State → State
 settle s = if eqb (s .lock) 0 then withRunning (top (s .threads)) s else s
+
+-- THE READY WORD
+
+abbrev pub hasMember : List Thread → ℕ → Bool
+hasMember ts p = ltb 0 (lineLength (ready p) ts)
+
+-- the number below 2 ^ n whose bit p is set exactly when p passes a test
+unfoldable pub bitsBelow : ℕ → (ℕ → Bool) → ℕ
+bitsBelow zero test = 0
+bitsBelow (suc p) test = bitsBelow p test + (if test p then 2 ^ p else 0)
+
+-- order 6: "a 32-bit word [..], bit p set exactly when ready line p has a member"
+unfoldable pub readyWord : List Thread → ℕ
+readyWord ts = bitsBelow (suc topPriority) (hasMember ts)

@@ -8,6 +8,7 @@ use lib.ListN.{getD, drop, replicate}
 use Rattle.rules.specs.Basic.{if_then_else_, bit, pieces}
 use Rattle.rules.specs.Board.{Board, recordLength}
 use Rattle.rules.specs.State.{State, counterOf}
+use Rattle.rules.specs.Lines.{readyWord}
 use Rattle.rules.specs.declared.Thread.{Thread}
 use Rattle.rules.specs.declared.Sem.{Sem}
 use Rattle.rules.specs.declared.Wait.{Wait}
@@ -93,9 +94,9 @@ semRow e = bit (e .used) ∷ e .count ∷ replicate 22 0
 unfoldable pub semOf : List ℕ → Sem
 semOf row = record { used = isOne (getD row 0 0); count = getD row 1 0 }
 
--- "Kernel: byte 0 running thread, 1 lock count."
-unfoldable pub kernelRow : ℕ → ℕ → List ℕ
-kernelRow running lock = running ∷ lock ∷ replicate 22 0
+-- "Kernel: byte 0 running thread, 1 lock count." Order 6: "Keep a 32-bit word in kernel bytes 2 to 5."
+unfoldable pub kernelRow : ℕ → ℕ → ℕ → List ℕ
+kernelRow running lock word = running ∷ lock ∷ (wordBytes word ++ replicate 18 0)
 
 -- THE TABLE
 
@@ -104,9 +105,13 @@ unfoldable pub flat : {A : Type 0} → (A → List ℕ) → List A → List ℕ
 flat row [] = []
 flat row (x ∷ xs) = row x ++ flat row xs
 
--- the table that holds a state
+-- the table of a state, with that ready word
+unfoldable pub encodeWith : ℕ → State → List ℕ
+encodeWith word s = flat threadRow (s .threads) ++ (flat semRow (s .sems) ++ kernelRow (s .running) (s .lock) word)
+
+-- the table that holds a state: order 6, "Every operation keeps it true and a table where it is wrong is unsound."
 unfoldable pub encode : State → List ℕ
-encode s = flat threadRow (s .threads) ++ (flat semRow (s .sems) ++ kernelRow (s .running) (s .lock))
+encode s = encodeWith (readyWord (s .threads)) s
 
 -- the first n records of a table
 unfoldable pub rows : ℕ → List ℕ → List (List ℕ)

@@ -44,3 +44,6 @@ pub const RUNNING: usize = 0;
 
 // "1 lock count."
 pub const LOCK: usize = 1;
+
+// Order 6: "a 32-bit word in kernel bytes 2 to 5".
+pub const READY_WORD: usize = 2;

@@ -79,7 +79,7 @@ pub fn drop_semaphore(t: &mut [u8], k: u8) -> Answer
     if !e.used {
         return refused::BAD_SEMAPHORE;
     }
-    let line = lines::waiters_line(k);
+    let line = marks::waiters_line(k);
     let n = lines::line_length(t, line);
     waiting::serve(t, n, line, Outcome::Failed);
     records::set_sem(
@@ -154,7 +154,7 @@ pub fn post(t: &mut [u8], k: u8, n: u32) -> Answer
     if !e.used {
         return refused::BAD_SEMAPHORE;
     }
-    let line = lines::waiters_line(k);
+    let line = marks::waiters_line(k);
     let served = served_by(n, lines::line_length(t, line));
     let over = n - served as u32;
     if too_many(e.count, n, over) {

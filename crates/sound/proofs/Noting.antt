@@ -17,8 +17,8 @@ use Rattle.rules.specs.Lines.{Line, nowhere, ready, waiters, senders, same, lin
 use Rattle.rules.specs.Test.{isNowhere, standsAt, placeOk}
 use Rattle.rules.specs.declared.Thread.{Thread}
 use Rattle.laws.proofs.Split.{is, isnt, test, clash}
-use Rattle.lines.specs.Numbers.{lineNumber}
-use Rattle.lines.proofs.Numbered.{same-none, same-number}
+use Rattle.marks.specs.Numbers.{lineNumber}
+use Rattle.marks.proofs.Numbered.{same-none, same-number}
 use Rattle.places.specs.Rings.{countBelow, entryIn, entryAt, placed}
 use Rattle.places.proofs.Below.{count-same, count-list}
 use Rattle.sound.specs.Tested.{Noted}

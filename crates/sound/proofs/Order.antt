@@ -20,13 +20,13 @@ used-test s i t = pass-together _ _ (
   λ e. let x = simp and-says at e in simp and-says (((((x .0 .0 .0 .0 .0 .0, x .0 .0 .0 .0 .0 .1), x .0 .0 .1), x .0 .0 .0 .0 .1), x .0 .0 .0 .1), (x .0 .1, x .1)),
 )
 
--- who waits for nothing senderWords nothing, and an outcome that is none yet is not done
-pub idle-senderWords : (w : Wait) → waiting w ≡ false → sending w ≡ false
-idle-senderWords (Nothing n) e = refl
-idle-senderWords (Delay n) e = refl
-idle-senderWords (Receive n) e = refl
-idle-senderWords (Send to n) e = absurd (clash refl e)
-idle-senderWords (Semaphore on n) e = refl
+-- who waits for nothing sends nothing, and an outcome that is none yet is not done
+pub idle-sends : (w : Wait) → waiting w ≡ false → sending w ≡ false
+idle-sends (Nothing n) e = refl
+idle-sends (Delay n) e = refl
+idle-sends (Receive n) e = refl
+idle-sends (Send to n) e = absurd (clash refl e)
+idle-sends (Semaphore on n) e = refl
 
 pub none-done : (o : Outcome) → isNoneYet o ≡ true → isDone o ≡ false
 none-done Done e = absurd (clash e refl)

@@ -1,7 +1,7 @@
 -- A table is sound exactly when each part of it that is tested passes: its bytes are those of its state when those of every record
 -- are, and the state is sound when every record is, and who runs. Assumes nothing.
 use mathlib.Core.Bool.{true, false}
-use mathlib.Core.Path.{_≡_, refl}
+use mathlib.Core.Path.{_≡_, refl, ap, _∙_}
 use mathlib.Core.List.{List}
 use Prim.Native.Nat.{ℕ, _+_, _*_, _<_}
 use native.Mathlib.Omega.{arith}
@@ -10,7 +10,7 @@ use lib.ListN.{length, getD}
 use Rattle.rules.specs.Basic.{allBelow}
 use Rattle.rules.specs.Board.{printer, recordLength, tableLength}
 use Rattle.rules.specs.State.{at, semAt}
-use Rattle.rules.specs.Table.{decode}
+use Rattle.rules.specs.Table.{encodeWith, encode, decode}
 use Rattle.rules.specs.Test.{semOk, threadOk, initOk, kernelOk, sound, soundTable}
 use Rattle.laws.proofs.Split.{clash, pass-together, and-true, and-both}
 use Rattle.laws.proofs.Reflect.{and-says, eqb-says}
@@ -25,7 +25,7 @@ use Rattle.sound.proofs.Found.{threads-long, no-sem}
 
 pub record Parts (t : List ℕ) : Type 0 where
   pub long : length t ≡ tableLength printer
-  pub kernel : restZero t (kernelFrom printer) ≡ true
+  pub kernel : restZero 6 t (kernelFrom printer) ≡ true
   pub sems : allBelow (printer .sems) (semTest t (decode printer t)) ≡ true
   pub init : initOk (at (decode printer t .threads) 0) ≡ true
   pub runs : Threads t (decode printer t) × (kernelOk (decode printer t) ≡ true)
@@ -43,21 +43,21 @@ module _ (t : List ℕ) where
       let canon = encoded-canon {b = printer} (sound-whole e .meaning) in
       record {
         long = x .0 .0;
-        kernel = canon .kernel;
-        sems = below-of (printer .sems) (semTest t s) (λ k h. and-both _ _ (canon .sems k h) (sems-say (s .sems) .0 (x .1 .0 .0 .1) k));
+        kernel = canon .0 .kernel;
+        sems = below-of (printer .sems) (semTest t s) (λ k h. and-both _ _ (canon .0 .sems k h) (sems-say (s .sems) .0 (x .1 .0 .0 .1) k));
         init = x .1 .0 .1;
-        runs = (record { canon = canon .threads; each = λ i h. threads-say s .0 (x .1 .0 .0 .0) i }, x .1 .1);
+        runs = (record { canon = canon .0 .threads; each = λ i h. threads-say s .0 (x .1 .0 .0 .0) i; word = canon .1 }, x .1 .1);
       }
 
   pub parts-sound : ((k : ℕ) → getD t k 0 < 256) → Parts t → soundTable printer t ≡ true
-  unfolding soundTable sound semOk semTest
+  unfolding soundTable sound semOk semTest encode
   parts-sound byte p =
       let s = decode printer t in
       let sem : (k : ℕ) (h : k < printer .sems) → _ = λ k h. and-true (semCanon t (semsFrom printer + k * recordLength)) (semOk (semAt (s .sems) k)) (below-at (printer .sems) (semTest t s) (p .sems) k h) in
       let canon : Canon printer t = record { long = p .long; threads = p .runs .0 .canon; sems = λ k h. sem k h .0; kernel = p .kernel } in
       let each : (k : ℕ) → semOk (semAt (s .sems) k) ≡ true = λ k. elim (decLt k (printer .sems)) [ yes h ↦ sem k h .1 | no h ↦ rw (no-sem t refl k (omega arith)) ] in
       simp (and-says, eqb-says, bytes-same) (
-        (p .long, canon-encoded byte canon),
+        (p .long, canon-encoded byte canon ∙ ap (λ w. encodeWith w s) (p .runs .0 .word)),
         (((below-of (length (s .threads)) (threadOk s) (λ i h. p .runs .0 .each i (omega (arith, threads-long t refl))), sems-say (s .sems) .1 each), p .init), p .runs .1),
       )
 

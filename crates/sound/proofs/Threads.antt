@@ -1,7 +1,7 @@
 -- A thread's record passes exactly when all that is asked of it holds. A free record is all zero, so its bytes are tested as they
 -- stand. Assumes nothing.
 use mathlib.Core.Bool.{Bool, true, false}
-use mathlib.Core.Path.{_≡_, refl, ap, sym, _∙_}
+use mathlib.Core.Path.{_≡_, refl, ap, sym, subst, _∙_}
 use mathlib.Core.List.{List}
 use Prim.Native.Nat.{ℕ, _+_, _*_, _≤_, _<_}
 use native.Mathlib.Nat.{add-zero}
@@ -9,9 +9,9 @@ use native.Mathlib.Omega.{arith}
 use lib.ListN.{length, getD, replicate, getD-replicate}
 use Rattle.rules.specs.Board.{printer, recordLength, tableLength, topPriority}
 use Rattle.rules.specs.State.{State, On, free, freeSem, at}
-use Rattle.rules.specs.Lines.{waitLine, line}
-use Rattle.rules.specs.Table.{waitOf, outcomeOf, threadRow, threadOf, decode}
-use Rattle.rules.specs.Test.{freeOk, objectOk, usedOk, notAbove}
+use Rattle.rules.specs.Lines.{waitLine, line, readyWord}
+use Rattle.rules.specs.Table.{waitOf, outcomeOf, threadRow, threadOf, encode, decode}
+use Rattle.rules.specs.Test.{freeOk, objectOk, usedOk}
 use Rattle.rules.specs.declared.Thread.{Thread}
 use Rattle.rules.specs.declared.Sem.{Sem}
 use Rattle.rules.specs.declared.Wait.{Wait}
@@ -27,7 +27,7 @@ use Rattle.layout.proofs.RoundTrip.{on-decode}
 use Rattle.layout.proofs.Said.{thread-said}
 use Rattle.canon.specs.Zero.{recordZero}
 use Rattle.canon.proofs.Zeros.{record-zeros, zeros-record}
-use Rattle.lines.specs.Numbers.{lineNumber}
+use Rattle.marks.specs.Numbers.{lineNumber}
 use Rattle.sound.specs.Tested.{Decides, InTable, Noted, Passes}
 use Rattle.sound.proofs.Noting.{notes-none}
 
@@ -67,20 +67,23 @@ used-number s on i th u e = let x = used-within s on i th e in rw u (wait-number
 pub as-read : (f : Thread → Bool) {th now : Thread} {b : Bool} → th ≡ now → f th ≡ b → f now ≡ b
 as-read f p e = ap f (sym p) ∙ e
 
+-- an answer decides what an equal one does
+pub decides-as : {t : List ℕ} {P : Type 0} {a b : Bool} → a ≡ b → Decides a t P → Decides b t P
+decides-as {t} {P} e d = subst (λ x. Decides x t P) e d
+
 -- what fails fails
 pub fails : {t : List ℕ} {P : Type 0} → (P → ⊥) → Decides false t P
 fails h = record { passed = λ e. absurd (clash e refl); passes = λ w p. absurd (h p) }
 
-module _ {t : List ℕ} (s : State) (limit i : ℕ) {th : Thread} (this : th ≡ at (s .threads) i) (u : th .used ≡ true) where
-  pub used-fails : usedOk s i th ≡ false → Decides false t (Passes t s limit i)
+module _ {t : List ℕ} (s : State) (i : ℕ) {th : Thread} (this : th ≡ at (s .threads) i) (u : th .used ≡ true) where
+  pub used-fails : usedOk s i th ≡ false → Decides false t (Passes t s i)
   used-fails e = fails (λ p. clash (if-says _ _ _ .0 (p .own) .0 (as-read (λ th. th .used) this u)) (as-read (usedOk s i) this e))
 
-  pub used-ends : threadCanon t (i * recordLength) ≡ true → usedOk s i th ≡ true → notAbove limit th ≡ true → Decides true t (Passes t s limit i)
-  used-ends c o n = record {
+  pub used-ends : threadCanon t (i * recordLength) ≡ true → usedOk s i th ≡ true → Decides true t (Passes t s i)
+  used-ends c o = record {
     passed = λ e. record {
       canon = c;
       own = if-says _ _ _ .1 (λ z. as-read (usedOk s i) this o, λ z. absurd (clash (as-read (λ th. th .used) this u) z));
-      rank = as-read (notAbove limit) this n;
     };
     passes = λ w p. refl;
   }
@@ -95,9 +98,9 @@ zeros-canon : (t : List ℕ) (base : ℕ) → ((k : ℕ) → k < recordLength �
 unfolding threadCanon headCanon
 zeros-canon t base z = rw (rw add-zero at (z 0 (omega arith)), z 2 (omega arith), z 3 (omega arith), z 4 (omega arith), z 6 (omega arith), z 7 (omega arith))
 
-module _ (t : List ℕ) (s : State) (limit i : ℕ) (long : length t ≡ tableLength printer) (e : decode printer t ≡ s) (inside : i < printer .threads)
+module _ (t : List ℕ) (s : State) (i : ℕ) (long : length t ≡ tableLength printer) (e : decode printer t ≡ s) (inside : i < printer .threads)
     {r : Bool} (zero : r ≡ recordZero t (i * recordLength)) where
-  zero-free : r ≡ true → at (s .threads) i ≡ free
+  pub zero-free : r ≡ true → at (s .threads) i ≡ free
   zero-free q =
       ap (λ s. at (s .threads) i) (sym e) ∙ thread-said printer t long i inside ∙ zeros-free t (i * recordLength) (record-zeros t (i * recordLength) (sym zero ∙ q))
 
@@ -105,19 +108,18 @@ module _ (t : List ℕ) (s : State) (limit i : ℕ) (long : length t ≡ tableLe
   pub free-noted : {numbers places : List ℕ} → Noted numbers places (s .threads) i → r ≡ true → Noted numbers places (s .threads) (i + 1)
   free-noted old q = let f = zero-free q in notes-none old (ap line f) (ap (λ th. th .place) f)
 
-  pub free-ends : {th : Thread} → th ≡ at (s .threads) i → th .used ≡ false → Decides r t (Passes t s limit i)
-  unfolding freeOk threadRow
+  pub free-ends : {th : Thread} → th ≡ at (s .threads) i → th .used ≡ false → Decides r t (Passes t s i)
+  unfolding freeOk threadRow encode
   free-ends this u =
       let base = i * recordLength in
       record {
         passed = λ q. let f = zero-free q in record {
           canon = zeros-canon t base (record-zeros t base (sym zero ∙ q));
           own = rw f;
-          rank = rw f;
         };
         passes = λ w p.
             let out = as-read (λ th. th .used) this u in
             let f = free-says (at (s .threads) i) out .0 (if-says _ _ _ .0 (p .own) .1 out) in
-            zero ∙ zeros-record t base (λ k h. ap (λ l. getD l (base + k) 0) (w .meaning) ∙ thread-byte (on-decode printer t) i k inside h
+            zero ∙ zeros-record t base (λ k h. ap (λ l. getD l (base + k) 0) (w .meaning) ∙ thread-byte (on-decode printer t) (readyWord (decode printer t .threads)) i k inside h
             ∙ ap (λ th. getD (threadRow th) k 0) (ap (λ s. at (s .threads) i) e ∙ f) ∙ getD-replicate recordLength k 0 0 h);
       }

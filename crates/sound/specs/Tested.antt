@@ -1,5 +1,5 @@
 -- What the test of a table finds out, in the order in which it asks.
-use mathlib.Core.Bool.{Bool, true, not, _&&_, _||_}
+use mathlib.Core.Bool.{Bool, true, false, not, _&&_, _||_}
 use mathlib.Core.Path.{_≡_}
 use mathlib.Core.List.{List}
 use Prim.Native.Nat.{ℕ, _+_, _*_, _≤_, _<_}
@@ -8,21 +8,33 @@ use lib.ListN.{getD}
 use Rattle.rules.specs.Basic.{if_then_else_}
 use Rattle.rules.specs.Board.{printer, recordLength, topPriority, mostTicks}
 use Rattle.rules.specs.State.{State, at, semAt, waiting, sending}
-use Rattle.rules.specs.Lines.{line}
-use Rattle.rules.specs.Test.{isDone, isNoneYet, freeOk, counterOk, objectOk, usedOk, threadOk, semOk, notAbove}
+use Rattle.rules.specs.Lines.{line, readyWord}
+use Rattle.rules.specs.Table.{wordAt}
+use Rattle.rules.specs.Test.{isDone, isNoneYet, freeOk, counterOk, objectOk, usedOk, threadOk, semOk}
 use Rattle.rules.specs.declared.Thread.{Thread}
 use Rattle.rules.specs.declared.Wait.{Wait}
 use Rattle.rules.specs.declared.Wait.the-variants.{Nothing, Delay, Receive, Send, Semaphore}
 use Rattle.rules.specs.declared.Outcome.{Outcome}
-use Rattle.layout.specs.Bytes.{semsFrom}
+use Rattle.layout.specs.Bytes.{semsFrom, wordFrom}
 use Rattle.layout.specs.Canon.{threadCanon, semCanon}
 use Rattle.layout.specs.Held.{Whole}
-use Rattle.lines.specs.Numbers.{lineNumber}
+use Rattle.marks.specs.Numbers.{lineNumber}
+use Rattle.sound.specs.declared.Verdict.{Verdict}
+use Rattle.sound.specs.declared.Verdict.the-variants.{Bad, Good}
 
 -- an answer that says whether something holds, of a table that holds the state that it says
 pub record Decides (r : Bool) (t : List ℕ) (P : Type 0) : Type 0 where
   pub passed : r ≡ true → P
   pub passes : Whole printer t → P → r ≡ true
+
+-- what is found of a thread
+abbrev pub isGood : Verdict → Bool
+isGood Bad = false
+isGood (Good bit) = true
+
+abbrev pub bitIn : Verdict → ℕ
+bitIn Bad = 0
+bitIn (Good bit) = bit
 
 -- A THREAD IN USE
 
@@ -55,19 +67,15 @@ pub record Noted (numbers places : List ℕ) (ts : List Thread) (i : ℕ) : Type
 -- RECORDS
 
 -- thread i, whoever else stands in its line
-pub record Passes (t : List ℕ) (s : State) (limit i : ℕ) : Type 0 where
+pub record Passes (t : List ℕ) (s : State) (i : ℕ) : Type 0 where
   pub canon : threadCanon t (i * recordLength) ≡ true
   pub own : (if at (s .threads) i .used then usedOk s i (at (s .threads) i) else freeOk (at (s .threads) i)) ≡ true
-  pub rank : notAbove limit (at (s .threads) i) ≡ true
 
--- every thread
+-- every thread, and the ready word
 pub record Threads (t : List ℕ) (s : State) : Type 0 where
   pub canon : (i : ℕ) → i < printer .threads → threadCanon t (i * recordLength) ≡ true
   pub each : (i : ℕ) → i < printer .threads → threadOk s i ≡ true
-
--- no ready thread's priority is above the limit
-abbrev pub NoneAbove : ℕ → State → Type 0
-NoneAbove limit s = (i : ℕ) → i < printer .threads → notAbove limit (at (s .threads) i) ≡ true
+  pub word : wordAt t (wordFrom printer) ≡ readyWord (s .threads)
 
 -- semaphore k
 unfoldable pub semTest : List ℕ → State → ℕ → Bool

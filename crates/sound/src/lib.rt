@@ -1,36 +1,27 @@
 // Is a table sound? Every record is tested once, in place. The line and the place of each thread are noted on the way, and at the end each
-// is held against all others.
+// is held against all others, and their bits together against the ready word.
 ghost use mathlib.Core.Path.{_≡_};
 ghost use mathlib.Core.Bool.{true};
-ghost use Prim.Native.Nat.{_+_, _<_};
+ghost use mathlib.Core.Logic.{_↔_};
+ghost use Prim.Native.Nat.{_+_, _^_, _≤_, _<_};
 ghost use lib.ListN.{length};
 ghost use Rattle.rules.specs.Basic.{allBelow};
 ghost use Rattle.rules.specs.Board.{printer, tableLength};
 ghost use Rattle.rules.specs.State.{State, at};
 ghost use Rattle.rules.specs.Lines.{line};
 ghost use Rattle.rules.specs.Table.{decode};
-ghost use Rattle.rules.specs.Test.{initOk, notAbove, kernelOk, soundTable};
-ghost use Rattle.lines.specs.Numbers.{lineNumber};
+ghost use Rattle.rules.specs.Test.{initOk, kernelOk, soundTable};
+ghost use Rattle.marks.specs.Numbers.{lineNumber};
 ghost use Rattle.places.specs.Rings.{ringLength};
-ghost use Rattle.sound.specs.Tested.{Decides, Noted, Passes, Threads, NoneAbove, semTest};
+ghost use Rattle.ready.specs.Word.{readyBit};
+ghost use Rattle.sound.specs.Tested.{Decides, isGood, bitIn, Noted, Passes, Threads, semTest};
 use rules::MOST_COUNT;
 use rules::SEMAPHORES;
 use rules::TABLE;
 use rules::THREADS;
-use rules::TOP_PRIORITY;
 use rules::Thread;
 
 mod used;
-
-// Is a thread's priority at most `limit`, if it is ready?
-fn not_above(th: Thread, limit: u8) -> bool
-    ensures { λ r. ⌜ r ≡ notAbove limit th ⌝ }
-{
-    if lines::is_ready(th) {
-        return th.priority <= limit;
-    }
-    true
-}
 
 // ONE THREAD
 
@@ -39,47 +30,59 @@ fn number_of(th: Thread) -> u8
     requires { ⌜ lineNumber (line th) < 256 ⌝ }
     ensures { λ r. ⌜ r ≡ lineNumber (line th) ⌝ }
 {
-    lines::line_of(th) as u8
+    marks::line_of(th) as u8
+}
+
+// What is found of a thread: it is not sound, or it is, and its bit in the ready word.
+enum Verdict {
+    Bad,
+    Good { bit: u32 },
 }
 
 // Is thread `i` sound, whoever else stands in its line? If it is, its line and its place are noted.
-fn thread_ok(t: &[u8], i: usize, limit: u8, numbers: &mut [u8], places: &mut [u8]) -> bool
+fn thread_ok(t: &[u8], i: usize, numbers: &mut [u8], places: &mut [u8]) -> Verdict
     requires { ⌜ (i < printer .threads) × (length (now t) ≡ tableLength printer) × (length (now numbers) ≡ ringLength) × (length (now places) ≡ ringLength) ⌝ }
     ensures { λ r. ⌜ ((s : State) → decode printer (now (t .entry)) ≡ s → Noted (now (numbers .entry)) (now (places .entry)) (s .threads) i
-        → Decides r (now (t .entry)) (Passes (now (t .entry)) s limit i)
-        × (r ≡ true → Noted (now (numbers .exit)) (now (places .exit)) (s .threads) (i + 1))) ⌝ }
+        → Decides (isGood r) (now (t .entry)) (Passes (now (t .entry)) s i)
+        × (isGood r ≡ true → Noted (now (numbers .exit)) (now (places .exit)) (s .threads) (i + 1) × (bitIn r ≡ readyBit (at (s .threads) i)))) ⌝ }
 {
     let th = records::load_thread(t, i);
     if !th.used {
-        return canon::thread_zero(t, i);
+        if !canon::thread_zero(t, i) {
+            return Verdict::Bad;
+        }
+        return Verdict::Good { bit: 0 };
     }
     if !canon::thread_canon(t, i) {
-        return false;
+        return Verdict::Bad;
     }
     if !used::used_ok(t, i, th) {
-        return false;
-    }
-    if !not_above(th, limit) {
-        return false;
+        return Verdict::Bad;
     }
     numbers[i] = number_of(th);
     places[i] = th.place;
-    true
+    let bit = ready::ready_bit(th);
+    Verdict::Good { bit }
 }
 
 // ALL THREADS
 
-// Are all threads sound, and is no ready thread's priority above `limit`?
-fn threads_ok(t: &[u8], limit: u8) -> bool
+// Are all threads sound, and is the ready word that of their lines?
+fn threads_ok(t: &[u8]) -> bool
     requires { ⌜ length (now t) ≡ tableLength printer ⌝ }
-    ensures { λ r. ⌜ ((s : State) → decode printer (now (t .entry)) ≡ s → Decides r (now (t .entry)) (Threads (now (t .entry)) s × NoneAbove limit s)) ⌝ }
+    ensures { λ r. ⌜ ((s : State) → decode printer (now (t .entry)) ≡ s → Decides r (now (t .entry)) (Threads (now (t .entry)) s)) ⌝ }
 {
     let mut numbers = [0u8; places::RING];
     let mut places = [0u8; places::RING];
+    let mut word: u32 = 0;
     for i in 0..THREADS {
-        if !thread_ok(t, i, limit, &mut numbers, &mut places) {
+        let Verdict::Good { bit } = thread_ok(&t[..], i, &mut numbers, &mut places) else {
             return false;
-        }
+        };
+        word |= bit;
+    }
+    if word != records::word(&t[..]) {
+        return false;
     }
     places::all_placed(&mut numbers, &mut places)
 }
@@ -123,7 +126,17 @@ fn init_ok(t: &[u8]) -> bool
     th.priority == 0
 }
 
-// Are all threads sound, and the one that runs?
+// Is that priority the highest of all whose bit is set in the word?
+fn is_top(word: u32, priority: u8) -> bool
+    ensures { λ r. ⌜ (r ≡ true) ↔ ((2 ^ priority ≤ word) × (word < 2 ^ (priority + 1))) ⌝ }
+{
+    if word == 0 {
+        return false;
+    }
+    ready::highest(word) == priority
+}
+
+// Are all threads sound, the ready word, and the thread that runs?
 fn runs_ok(t: &[u8]) -> bool
     requires { ⌜ length (now t) ≡ tableLength printer ⌝ }
     ensures { λ r. ⌜ ((s : State) → decode printer (now (t .entry)) ≡ s → Decides r (now (t .entry)) (Threads (now (t .entry)) s × (kernelOk s ≡ true))) ⌝ }
@@ -137,12 +150,15 @@ fn runs_ok(t: &[u8]) -> bool
         return false;
     }
     if records::lock(t) != 0 {
-        return threads_ok(t, TOP_PRIORITY);
+        return threads_ok(t);
     }
     if th.place != 1 {
         return false;
     }
-    threads_ok(t, th.priority)
+    if !is_top(records::word(t), th.priority) {
+        return false;
+    }
+    threads_ok(t)
 }
 
 // Is the table sound?

@@ -1,9 +1,11 @@
 // What operations on threads change, in place: one thread's record, between the line that it leaves and the line that it joins.
 ghost use mathlib.Core.Bool.{false};
+ghost use mathlib.Core.Path.{_≡_};
 ghost use Prim.Native.Nat.{_<_};
 ghost use Rattle.rules.specs.Board.{printer};
-ghost use Rattle.rules.specs.State.{edit, withSuspended, withSettings};
-ghost use Rattle.rules.specs.Lines.{filled, move};
+ghost use Rattle.rules.specs.State.{State, at, edit, withSuspended, withSettings};
+ghost use Rattle.rules.specs.Lines.{line, filled, move};
+ghost use Rattle.rules.specs.Table.{decode};
 ghost use Rattle.rules.specs.Threads.{created, deleted, stopped};
 ghost use Rattle.layout.specs.Held.{Whole, Becomes, onThreads};
 use rules::Outcome;
@@ -27,8 +29,8 @@ pub fn create_thread(t: &mut [u8], i: usize, priority: u8, turn: u32)
         value: 0,
         parcel: 0,
     };
-    lines::leave(t, i);
-    records::store_thread(t, i, new);
+    let left = ready::leave(t, i);
+    ready::store_thread(t, i, new, left);
     lines::join(t, i);
 }
 
@@ -38,10 +40,10 @@ pub fn delete_thread(t: &mut [u8], i: u8)
     ensures { λ _. ⌜ Becomes printer (now (t .entry)) (now (t .exit)) (onThreads (deleted i)) ⌝ }
 {
     let k = i as usize;
-    let line = lines::senders_line(i);
+    let line = marks::senders_line(i);
     let n = lines::line_length(t, line);
-    lines::leave(t, k);
-    records::free_thread(t, k);
+    let left = ready::leave(t, k);
+    ready::free_thread(t, k, left);
     lines::join(t, k);
     waiting::serve(t, n, line, Outcome::Failed);
 }
@@ -51,18 +53,26 @@ pub fn move_settings(t: &mut [u8], i: usize, priority: u8, turn: u32)
     requires { ⌜ (i < printer .threads) × Whole printer (now t) ⌝ }
     ensures { λ _. ⌜ Becomes printer (now (t .entry)) (now (t .exit)) (onThreads (move i (withSettings priority turn))) ⌝ }
 {
-    lines::leave(t, i);
-    records::set_settings(t, i, priority, turn);
+    let left = ready::leave(t, i);
+    ready::set_settings(t, i, priority, turn, left);
     lines::join(t, i);
 }
 
-// Thread `i` is given a priority and a turn; if it is ready it takes a full counter.
+// Thread `i` is given a priority and a turn that leave it in its line; if it is ready it takes a full counter.
 pub fn edit_settings(t: &mut [u8], i: usize, priority: u8, turn: u32)
-    requires { ⌜ (i < printer .threads) × Whole printer (now t) ⌝ }
+    requires { ⌜ (i < printer .threads) × Whole printer (now t) × ((s : State) → decode printer (now t) ≡ s → line (withSettings priority turn (at (s .threads) i)) ≡ line (at (s .threads) i)) ⌝ }
     ensures { λ _. ⌜ Becomes printer (now (t .entry)) (now (t .exit)) (onThreads (edit i (λ x. filled (withSettings priority turn x)))) ⌝ }
 {
     records::set_settings(t, i, priority, turn);
     lines::fill(t, i);
+}
+
+// Thread `i`, which is suspended or resumed while it waits, stays in its line.
+pub fn edit_suspended(t: &mut [u8], i: usize, suspended: bool)
+    requires { ⌜ (i < printer .threads) × Whole printer (now t) × ((s : State) → decode printer (now t) ≡ s → line (withSuspended suspended (at (s .threads) i)) ≡ line (at (s .threads) i)) ⌝ }
+    ensures { λ _. ⌜ Becomes printer (now (t .entry)) (now (t .exit)) (onThreads (edit i (withSuspended suspended))) ⌝ }
+{
+    records::set_suspended(t, i, suspended);
 }
 
 // Thread `i`, which is ready, is suspended: it leaves its line with counter 0.
@@ -70,9 +80,8 @@ pub fn stop(t: &mut [u8], i: usize)
     requires { ⌜ (i < printer .threads) × Whole printer (now t) ⌝ }
     ensures { λ _. ⌜ Becomes printer (now (t .entry)) (now (t .exit)) (onThreads (move i stopped)) ⌝ }
 {
-    lines::leave(t, i);
-    records::set_suspended(t, i, true);
-    records::set_wait(t, i, Wait::Nothing { counter: 0 });
+    let left = ready::leave(t, i);
+    ready::set_stopped(t, i, left);
     lines::join(t, i);
 }
 
@@ -81,7 +90,7 @@ pub fn restart(t: &mut [u8], i: usize)
     requires { ⌜ (i < printer .threads) × Whole printer (now t) ⌝ }
     ensures { λ _. ⌜ Becomes printer (now (t .entry)) (now (t .exit)) (onThreads (move i (withSuspended false))) ⌝ }
 {
-    lines::leave(t, i);
-    records::set_suspended(t, i, false);
+    let left = ready::leave(t, i);
+    ready::set_suspended(t, i, false, left);
     lines::join(t, i);
 }

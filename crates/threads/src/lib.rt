@@ -127,7 +127,7 @@ pub fn suspend(t: &mut [u8], i: u8) -> Answer
         changes::stop(t, k);
         return waiting::accept(t, 0);
     }
-    records::set_suspended(t, k, true);
+    changes::edit_suspended(t, k, true);
     waiting::accept(t, 0)
 }
 
@@ -146,7 +146,7 @@ pub fn resume(t: &mut [u8], i: u8) -> Answer
     let k = i as usize;
     let w = th.wait;
     if records::is_waiting(w) {
-        records::set_suspended(t, k, false);
+        changes::edit_suspended(t, k, false);
         return waiting::accept(t, 0);
     }
     changes::restart(t, k);

@@ -1,8 +1,12 @@
 -- Each public function's own promise is tight: it is a family of equations with what the table says, and a table says one state; every number
 -- is that of one line; a text that is put somewhere is put there. Assumes nothing.
-use mathlib.Core.Path.{_≡_, refl, sym, _∙_}
-use Rattle.layout.proofs.Held.{becomes-one}
-use Rattle.lines.proofs.Numbered.{numbered}
+use mathlib.Core.Path.{_≡_, refl, ap, sym, _∙_}
+use native.Mathlib.Omega.{arith}
+use Rattle.rules.specs.Board.{printer}
+use Rattle.rules.specs.Table.{decode}
+use Rattle.laws.proofs.Word.{power-low}
+use Rattle.layout.proofs.Held.{becomes-one, whole-laid, laid-shows, changes-one}
+use Rattle.marks.proofs.Numbered.{numbered}
 use Rattle.waiting.proofs.Doing.{does-one}
 use Rattle.text.proofs.Putting.{puts-tight}
 use Rattle.tight.specs.Each.{Each}
@@ -14,11 +18,13 @@ first {y} e = λ j. (e j, y)
 pub each : Each
 each = record {
   -- words
+  words-long-at = λ κs a z z′ ws ws′ h p q. (p ∙ sym q, refl);
   words-put-word = λ κs a z z′ ws ws′ h p q. (refl, first (p ∙ sym q));
   words-word-at = λ κs a z z′ ws ws′ h p q. (p ∙ sym q, refl);
   -- records
   records-counter-of = λ κs a z z′ ws ws′ h p q. (p ∙ sym q, refl);
-  records-free-thread = λ κs a z z′ ws ws′ h p q. (refl, first (becomes-one (h .1) p q));
+  records-free-thread = λ κs a z z′ ws ws′ h p q. (refl, first (changes-one (whole-laid (h .1)) p q));
+  records-head = λ κs a z z′ ws ws′ h p q. (p ∙ sym q, refl);
   records-is-delaying = λ κs a z z′ ws ws′ h p q. (p ∙ sym q, refl);
   records-is-pending = λ κs a z z′ ws ws′ h p q. (p ∙ sym q, refl);
   records-is-receiving = λ κs a z z′ ws ws′ h p q. (p ∙ sym q, refl);
@@ -35,25 +41,41 @@ each = record {
   records-set-place = λ κs a z z′ ws ws′ h p q. (refl, first (becomes-one (h .1) p q));
   records-set-running = λ κs a z z′ ws ws′ h p q. (refl, first (becomes-one (h .1) p q));
   records-set-sem = λ κs a z z′ ws ws′ h p q. (refl, first (becomes-one (h .1) p q));
-  records-set-settings = λ κs a z z′ ws ws′ h p q. (refl, first (becomes-one (h .1) p q));
-  records-set-suspended = λ κs a z z′ ws ws′ h p q. (refl, first (becomes-one (h .1) p q));
-  records-set-wait = λ κs a z z′ ws ws′ h p q. (refl, first (becomes-one (h .1) p q));
-  records-store-thread = λ κs a z z′ ws ws′ h p q. (refl, first (becomes-one (h .1) p q));
+  records-set-settings = λ κs a z z′ ws ws′ h p q. (refl, first (changes-one (h .1) p q));
+  records-set-suspended = λ κs a z z′ ws ws′ h p q. (refl, first (changes-one (h .1) p q));
+  records-set-wait = λ κs a z z′ ws ws′ h p q. (refl, first (changes-one (h .1) p q));
+  records-set-word = λ κs a z z′ ws ws′ h p q. (refl, first (p _ _ (laid-shows h) .bytes ∙ sym (q _ _ (laid-shows h) .bytes)));
+  records-store-thread = λ κs a z z′ ws ws′ h p q. (refl, first (changes-one (whole-laid (h .1)) p q));
   records-thread-at = λ κs a z z′ ws ws′ h p q. (p _ refl ∙ sym (q _ refl), refl);
+  records-word = λ κs a z z′ ws ws′ h p q. (p ∙ sym q, refl);
+  -- marks
+  marks-first-mark = λ κs a z z′ ws ws′ h p q. let l = numbered (a .0) in (p (l .0) (l .1) ∙ sym (q (l .0) (l .1)), refl);
+  marks-has-mark = λ κs a z z′ ws ws′ h p q. (p .0 ∙ sym (q .0), refl);
+  marks-line-of = λ κs a z z′ ws ws′ h p q. (p ∙ sym q, refl);
+  marks-mark-of = λ κs a z z′ ws ws′ h p q. let l = numbered (a .0) in (p (l .0) (l .1) ∙ sym (q (l .0) (l .1)), refl);
+  marks-ready-line = λ κs a z z′ ws ws′ h p q. (p ∙ sym q, refl);
+  marks-senders-line = λ κs a z z′ ws ws′ h p q. (p ∙ sym q, refl);
+  marks-waiters-line = λ κs a z z′ ws ws′ h p q. (p ∙ sym q, refl);
   -- lines
   lines-fill = λ κs a z z′ ws ws′ h p q. (refl, first (becomes-one (h .1) p q));
   lines-first-of = λ κs a z z′ ws ws′ h p q. let l = numbered (a .1 .0) in (p .1 _ (l .0) refl (l .1) ∙ sym (q .1 _ (l .0) refl (l .1)), refl);
   lines-is-ready = λ κs a z z′ ws ws′ h p q. (p ∙ sym q, refl);
   lines-join = λ κs a z z′ ws ws′ h p q. (p .0 _ refl ∙ sym (q .0 _ refl), first (becomes-one (h .1) (p .1) (q .1)));
-  lines-leave = λ κs a z z′ ws ws′ h p q. (refl, first (becomes-one (h .1) p q));
+  lines-leave = λ κs a z z′ ws ws′ h p q. (p .0 _ refl ∙ sym (q .0 _ refl), first (becomes-one (h .1) (p .1) (q .1)));
   lines-line-length = λ κs a z z′ ws ws′ h p q. let l = numbered (a .1 .0) in (p _ (l .0) refl (l .1) ∙ sym (q _ (l .0) refl (l .1)), refl);
-  lines-line-of = λ κs a z z′ ws ws′ h p q. (p ∙ sym q, refl);
-  lines-ready-line = λ κs a z z′ ws ws′ h p q. (p ∙ sym q, refl);
-  lines-senders-line = λ κs a z z′ ws ws′ h p q. (p ∙ sym q, refl);
-  lines-settle = λ κs a z z′ ws ws′ h p q. (refl, first (becomes-one h p q));
   lines-to-tail = λ κs a z z′ ws ws′ h p q. (refl, first (becomes-one (h .1) p q));
-  lines-top-thread = λ κs a z z′ ws ws′ h p q. (p .1 _ refl ∙ sym (q .1 _ refl), refl);
-  lines-waiters-line = λ κs a z z′ ws ws′ h p q. (p ∙ sym q, refl);
+  -- ready
+  ready-free-thread = λ κs a z z′ ws ws′ h p q. (refl, first (becomes-one (h .1) p q));
+  ready-highest = λ κs a z z′ ws ws′ h p q. (omega (arith, power-low _ _ _ (p .1) (q .2), power-low _ _ _ (q .1) (p .2)), refl);
+  ready-leave = λ κs a z z′ ws ws′ h p q. let e = becomes-one (h .1) (p .1) (q .1) in (p .0 _ refl ∙ sym (q .0 _ (ap (decode printer) (sym e))), first e);
+  ready-ready-bit = λ κs a z z′ ws ws′ h p q. (p ∙ sym q, refl);
+  ready-set-settings = λ κs a z z′ ws ws′ h p q. (refl, first (becomes-one (h .1) p q));
+  ready-set-stopped = λ κs a z z′ ws ws′ h p q. (refl, first (becomes-one (h .1) p q));
+  ready-set-suspended = λ κs a z z′ ws ws′ h p q. (refl, first (becomes-one (h .1) p q));
+  ready-set-wait = λ κs a z z′ ws ws′ h p q. (refl, first (becomes-one (h .1) p q));
+  ready-settle = λ κs a z z′ ws ws′ h p q. (refl, first (becomes-one h p q));
+  ready-store-thread = λ κs a z z′ ws ws′ h p q. (refl, first (becomes-one (h .1) p q));
+  ready-top-thread = λ κs a z z′ ws ws′ h p q. (p .1 _ refl ∙ sym (q .1 _ refl), refl);
   -- canon
   canon-kernel-canon = λ κs a z z′ ws ws′ h p q. (p ∙ sym q, refl);
   canon-sem-canon = λ κs a z z′ ws ws′ h p q. (p ∙ sym q, refl);

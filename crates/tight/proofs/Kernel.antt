@@ -13,12 +13,14 @@ use Rattle.fairness.specs.Run.{Event}
 use Rattle.kernel.proofs.speltmallet_door.Met.{met}
 use Rattle.promises.specs.Demand1.{Answered}
 use Rattle.promises.specs.Demand2.{Ruled}
+use Rattle.promises.specs.Word.{WordSays}
 use Rattle.fairness.specs.Doors.{eventOf, runOf}
 use Rattle.promises.specs.Demand3.{Fair, Shares}
 use Rattle.promises.specs.Lanes.{NoLagIn}
 use Rattle.tight.specs.Kernel.{Call, Runs, events, Kernel}
 use Rattle.promises.proofs.First.{first}
 use Rattle.promises.proofs.Second.{second}
+use Rattle.promises.proofs.Word.{ready-word}
 use Rattle.promises.proofs.Third.{whole-rounds, demand3}
 use Rattle.promises.proofs.Lanes.{no-lags}
 
@@ -51,6 +53,7 @@ kernel = record {
   says = λ M 𝓤 H A memory runs x g d. three 𝓤 _ _ _ _ (λ p q r j. record { code = p j; table = q j; area = r j });
   first = λ x d e. subst (λ d. Answered printer (now (x .table)) (now (x .request)) (now (x .area)) d) (sym e) (first printer _ _ _);
   second = λ x d σ e. subst (λ d. Ruled printer (now (x .table)) (now (x .request)) (now (x .area)) d) (sym e) (second .ruled printer _ _ _ σ);
+  word = λ x d σ e. subst (λ d. WordSays printer (d .table)) (sym e) (ready-word .sound printer _ (second .ruled printer _ _ _ σ .sound));
   third = λ t cs h. subst (λ es. Fair printer t es) (run-of t cs h) (demand3 printer t (map handed cs));
   shares = λ t cs h. subst (λ es. Shares printer t es) (run-of t cs h) (whole-rounds printer t (map handed cs));
   lags = λ t cs σ h. subst (λ es. NoLagIn printer t es) (run-of t cs h) (no-lags .from printer t (map handed cs) σ);

@@ -1,7 +1,9 @@
 -- Every public function's own promise is tight: a field for each. The three functions over the trace reader stand in `Readers.antt`.
 use Rattle.words.proofs as words
 use Rattle.records.proofs as records
+use Rattle.marks.proofs as marks
 use Rattle.lines.proofs as lines
+use Rattle.ready.proofs as ready
 use Rattle.canon.proofs as canon
 use Rattle.places.proofs as places
 use Rattle.sound.proofs as sound
@@ -24,11 +26,13 @@ use Rattle.tight.specs.Promise.{Determines}
 
 pub record Each : Type 1 where
   -- words
+  pub words-long-at : Determines words.long_at.Kinds.ps words.long_at.Kinds.r words.long_at.Reads.Pre words.long_at.Reads.Post
   pub words-put-word : Determines words.put_word.Kinds.ps words.put_word.Kinds.r words.put_word.Reads.Pre words.put_word.Reads.Post
   pub words-word-at : Determines words.word_at.Kinds.ps words.word_at.Kinds.r words.word_at.Reads.Pre words.word_at.Reads.Post
   -- records
   pub records-counter-of : Determines records.counter_of.Kinds.ps records.counter_of.Kinds.r records.counter_of.Reads.Pre records.counter_of.Reads.Post
   pub records-free-thread : Determines records.free_thread.Kinds.ps records.free_thread.Kinds.r records.free_thread.Reads.Pre records.free_thread.Reads.Post
+  pub records-head : Determines records.head.Kinds.ps records.head.Kinds.r records.head.Reads.Pre records.head.Reads.Post
   pub records-is-delaying : Determines records.is_delaying.Kinds.ps records.is_delaying.Kinds.r records.is_delaying.Reads.Pre records.is_delaying.Reads.Post
   pub records-is-pending : Determines records.is_pending.Kinds.ps records.is_pending.Kinds.r records.is_pending.Reads.Pre records.is_pending.Reads.Post
   pub records-is-receiving : Determines records.is_receiving.Kinds.ps records.is_receiving.Kinds.r records.is_receiving.Reads.Pre records.is_receiving.Reads.Post
@@ -48,8 +52,18 @@ pub record Each : Type 1 where
   pub records-set-settings : Determines records.set_settings.Kinds.ps records.set_settings.Kinds.r records.set_settings.Reads.Pre records.set_settings.Reads.Post
   pub records-set-suspended : Determines records.set_suspended.Kinds.ps records.set_suspended.Kinds.r records.set_suspended.Reads.Pre records.set_suspended.Reads.Post
   pub records-set-wait : Determines records.set_wait.Kinds.ps records.set_wait.Kinds.r records.set_wait.Reads.Pre records.set_wait.Reads.Post
+  pub records-set-word : Determines records.set_word.Kinds.ps records.set_word.Kinds.r records.set_word.Reads.Pre records.set_word.Reads.Post
   pub records-store-thread : Determines records.store_thread.Kinds.ps records.store_thread.Kinds.r records.store_thread.Reads.Pre records.store_thread.Reads.Post
   pub records-thread-at : Determines records.thread_at.Kinds.ps records.thread_at.Kinds.r records.thread_at.Reads.Pre records.thread_at.Reads.Post
+  pub records-word : Determines records.word.Kinds.ps records.word.Kinds.r records.word.Reads.Pre records.word.Reads.Post
+  -- marks
+  pub marks-first-mark : Determines marks.first_mark.Kinds.ps marks.first_mark.Kinds.r marks.first_mark.Reads.Pre marks.first_mark.Reads.Post
+  pub marks-has-mark : Determines marks.has_mark.Kinds.ps marks.has_mark.Kinds.r marks.has_mark.Reads.Pre marks.has_mark.Reads.Post
+  pub marks-line-of : Determines marks.line_of.Kinds.ps marks.line_of.Kinds.r marks.line_of.Reads.Pre marks.line_of.Reads.Post
+  pub marks-mark-of : Determines marks.mark_of.Kinds.ps marks.mark_of.Kinds.r marks.mark_of.Reads.Pre marks.mark_of.Reads.Post
+  pub marks-ready-line : Determines marks.ready_line.Kinds.ps marks.ready_line.Kinds.r marks.ready_line.Reads.Pre marks.ready_line.Reads.Post
+  pub marks-senders-line : Determines marks.senders_line.Kinds.ps marks.senders_line.Kinds.r marks.senders_line.Reads.Pre marks.senders_line.Reads.Post
+  pub marks-waiters-line : Determines marks.waiters_line.Kinds.ps marks.waiters_line.Kinds.r marks.waiters_line.Reads.Pre marks.waiters_line.Reads.Post
   -- lines
   pub lines-fill : Determines lines.fill.Kinds.ps lines.fill.Kinds.r lines.fill.Reads.Pre lines.fill.Reads.Post
   pub lines-first-of : Determines lines.first_of.Kinds.ps lines.first_of.Kinds.r lines.first_of.Reads.Pre lines.first_of.Reads.Post
@@ -57,13 +71,19 @@ pub record Each : Type 1 where
   pub lines-join : Determines lines.join.Kinds.ps lines.join.Kinds.r lines.join.Reads.Pre lines.join.Reads.Post
   pub lines-leave : Determines lines.leave.Kinds.ps lines.leave.Kinds.r lines.leave.Reads.Pre lines.leave.Reads.Post
   pub lines-line-length : Determines lines.line_length.Kinds.ps lines.line_length.Kinds.r lines.line_length.Reads.Pre lines.line_length.Reads.Post
-  pub lines-line-of : Determines lines.line_of.Kinds.ps lines.line_of.Kinds.r lines.line_of.Reads.Pre lines.line_of.Reads.Post
-  pub lines-ready-line : Determines lines.ready_line.Kinds.ps lines.ready_line.Kinds.r lines.ready_line.Reads.Pre lines.ready_line.Reads.Post
-  pub lines-senders-line : Determines lines.senders_line.Kinds.ps lines.senders_line.Kinds.r lines.senders_line.Reads.Pre lines.senders_line.Reads.Post
-  pub lines-settle : Determines lines.settle.Kinds.ps lines.settle.Kinds.r lines.settle.Reads.Pre lines.settle.Reads.Post
   pub lines-to-tail : Determines lines.to_tail.Kinds.ps lines.to_tail.Kinds.r lines.to_tail.Reads.Pre lines.to_tail.Reads.Post
-  pub lines-top-thread : Determines lines.top_thread.Kinds.ps lines.top_thread.Kinds.r lines.top_thread.Reads.Pre lines.top_thread.Reads.Post
-  pub lines-waiters-line : Determines lines.waiters_line.Kinds.ps lines.waiters_line.Kinds.r lines.waiters_line.Reads.Pre lines.waiters_line.Reads.Post
+  -- ready
+  pub ready-free-thread : Determines ready.free_thread.Kinds.ps ready.free_thread.Kinds.r ready.free_thread.Reads.Pre ready.free_thread.Reads.Post
+  pub ready-highest : Determines ready.highest.Kinds.ps ready.highest.Kinds.r ready.highest.Reads.Pre ready.highest.Reads.Post
+  pub ready-leave : Determines ready.leave.Kinds.ps ready.leave.Kinds.r ready.leave.Reads.Pre ready.leave.Reads.Post
+  pub ready-ready-bit : Determines ready.ready_bit.Kinds.ps ready.ready_bit.Kinds.r ready.ready_bit.Reads.Pre ready.ready_bit.Reads.Post
+  pub ready-set-settings : Determines ready.set_settings.Kinds.ps ready.set_settings.Kinds.r ready.set_settings.Reads.Pre ready.set_settings.Reads.Post
+  pub ready-set-stopped : Determines ready.set_stopped.Kinds.ps ready.set_stopped.Kinds.r ready.set_stopped.Reads.Pre ready.set_stopped.Reads.Post
+  pub ready-set-suspended : Determines ready.set_suspended.Kinds.ps ready.set_suspended.Kinds.r ready.set_suspended.Reads.Pre ready.set_suspended.Reads.Post
+  pub ready-set-wait : Determines ready.set_wait.Kinds.ps ready.set_wait.Kinds.r ready.set_wait.Reads.Pre ready.set_wait.Reads.Post
+  pub ready-settle : Determines ready.settle.Kinds.ps ready.settle.Kinds.r ready.settle.Reads.Pre ready.settle.Reads.Post
+  pub ready-store-thread : Determines ready.store_thread.Kinds.ps ready.store_thread.Kinds.r ready.store_thread.Reads.Pre ready.store_thread.Reads.Post
+  pub ready-top-thread : Determines ready.top_thread.Kinds.ps ready.top_thread.Kinds.r ready.top_thread.Reads.Pre ready.top_thread.Reads.Post
   -- canon
   pub canon-kernel-canon : Determines canon.kernel_canon.Kinds.ps canon.kernel_canon.Kinds.r canon.kernel_canon.Reads.Pre canon.kernel_canon.Reads.Post
   pub canon-sem-canon : Determines canon.sem_canon.Kinds.ps canon.sem_canon.Kinds.r canon.sem_canon.Reads.Pre canon.sem_canon.Reads.Post

@@ -22,6 +22,7 @@ use Rattle.kernel.proofs.speltmallet_door as kernel
 use Rattle.kernel.proofs.speltmallet_door.Statement.{statement}
 use Rattle.promises.specs.Demand1.{Answered}
 use Rattle.promises.specs.Demand2.{Ruled}
+use Rattle.promises.specs.Word.{WordSays}
 use Rattle.fairness.specs.Doors.{eventOf}
 use Rattle.promises.specs.Demand3.{Fair, Shares}
 use Rattle.promises.specs.Lanes.{NoLagIn}
@@ -88,6 +89,8 @@ pub record Kernel : Type 2 where
   pub first : (x : Lent) (d : Doored) → Allowed x d → Answered printer (now (x .table)) (now (x .request)) (now (x .area)) d
   -- demand 2
   pub second : (x : Lent) (d : Doored) → SoundTable printer (now (x .table)) → Allowed x d → Ruled printer (now (x .table)) (now (x .request)) (now (x .area)) d
+  -- order 6: and the ready word of the table that is left says what it is to say
+  pub word : (x : Lent) (d : Doored) → SoundTable printer (now (x .table)) → Allowed x d → WordSays printer (d .table)
   -- demand 3
   pub third : (t : List ℕ) (cs : List Call) → Runs t cs → Fair printer t (events t cs)
   -- and the share over whole rounds

@@ -14,7 +14,7 @@ ghost use Rattle.rules.specs.Waiting.{accept, endWait, serve, block, mayNotWait
 ghost use Rattle.rules.specs.Threads.{noThread, breakOff};
 ghost use Rattle.rules.specs.declared.Wait.{Wait};
 ghost use Rattle.layout.specs.Held.{Whole, Becomes, onThreads};
-ghost use Rattle.lines.specs.Numbers.{lineNumber};
+ghost use Rattle.marks.specs.Numbers.{lineNumber};
 ghost use Rattle.waiting.specs.Does.{Serves, Does};
 use rules::Answer;
 use rules::MOST_TICKS;
@@ -30,7 +30,7 @@ pub fn accept(t: &mut [u8], value: u32) -> Answer
     requires { ⌜ Whole printer (now t) ⌝ }
     ensures { λ r. ⌜ Does printer (now (t .entry)) (now (t .exit)) r (λ s. accept s value) ⌝ }
 {
-    lines::settle(t);
+    ready::settle(t);
     Answer::Done { value }
 }
 
@@ -43,8 +43,8 @@ fn change_wait(t: &mut [u8], i: usize, w: Wait, outcome: Outcome, parcel: u32) -
     ensures place { λ r. ⌜ ((s : State) → decode printer (now (t .exit)) ≡ s → r ≡ at (s .threads) i .place) ⌝ }
     ensures table { λ _. ⌜ Becomes printer (now (t .entry)) (now (t .exit)) (onThreads (move i (λ x. withOutcome outcome parcel (withWait w x)))) ⌝ }
 {
-    lines::leave(t, i);
-    records::set_wait(t, i, w);
+    let left = ready::leave(t, i);
+    ready::set_wait(t, i, w, left);
     records::set_outcome(t, i, outcome, parcel);
     lines::join(t, i)
 }
@@ -131,7 +131,7 @@ pub fn block(t: &mut [u8], w: Wait, parcel: u32) -> Answer
 {
     let i = records::running(t);
     let place = change_wait(t, i, w, Outcome::NoneYet, parcel);
-    lines::settle(t);
+    ready::settle(t);
     let ahead = ahead_of(place);
     Answer::Blocked { ahead }
 }

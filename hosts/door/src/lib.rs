@@ -1,5 +1,6 @@
 //! The compiled door from Rust, and what holds it to the independent model: every call is put to
-//! both, and the returned number, the table, the area and the bytes around them must be the same.
+//! both, and the returned number, all bytes of the table, the ready word among them, the area and
+//! the bytes around them must be the same.
 
 pub mod boards;
 mod coverage;

@@ -56,6 +56,10 @@ impl View<'_> {
         self.0[at::LOCK]
     }
 
+    pub fn ready_word(&self) -> u32 {
+        word(self.0, at::READY_WORD)
+    }
+
     /// "A thread is ready when in use, not suspended, not waiting"
     pub fn ready(&self, i: usize) -> bool {
         self.in_use(i) && !self.suspended(i) && self.wait(i).0 == wait::NONE

@@ -1,5 +1,6 @@
 //! Over a million random steps, from fresh and from random sound tables that no run need reach,
-//! each held to the model byte for byte, with enough of every sort of step.
+//! each held to the model byte for byte, the ready word among them, with enough of every sort of
+//! step.
 
 use door::{random_run, Coverage, Hold};
 use model::{fresh, random_sound, Rng};

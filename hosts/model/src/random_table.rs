@@ -19,6 +19,7 @@ pub fn random_sound(rng: &mut Rng) -> [u8; TABLE] {
         choose_outcome(rng, &mut table, i);
     }
     choose_running(rng, &mut table);
+    note_ready_lines(&mut table);
     table
 }
 
@@ -29,7 +30,8 @@ pub fn spoil(rng: &mut Rng, table: &mut [u8; TABLE]) {
     for _ in 0..rng.between(1, 3) {
         let any = rng.below(TABLE);
         let of_thread = at::thread(rng.pick(&used)) + rng.below(WIDTH);
-        let of_kernel = rng.pick(&[at::RUNNING, at::LOCK]);
+        let of_word = at::READY_WORD + rng.below(4);
+        let of_kernel = rng.pick(&[at::RUNNING, at::LOCK, of_word]);
         let offset = rng.pick(&[any, of_thread, of_thread, of_thread, of_kernel]);
         let (old, other) = (table[offset], rng.bits() as u8);
         let near = [old.wrapping_add(1), old.wrapping_sub(1)];
@@ -231,4 +233,14 @@ fn choose_running(rng: &mut Rng, table: &mut [u8]) {
         0 => highest as u8,
         _ => rng.pick(&ready) as u8,
     };
+}
+
+/// Each ready thread sets the bit of its priority.
+fn note_ready_lines(table: &mut [u8]) {
+    for i in in_use(table) {
+        if kind(table, i) == wait::NONE && !suspended(table, i) {
+            let priority = usize::from(table[at::thread(i) + at::PRIORITY]);
+            table[at::READY_WORD + priority / 8] |= 1 << (priority % 8);
+        }
+    }
 }

@@ -1,5 +1,5 @@
-//! Soundness, on the bytes: one function for each bullet of "A table is sound exactly when". It
-//! shares nothing with the queues.
+//! Soundness, on the bytes: one function for each bullet of "A table is sound exactly when", and one
+//! for order 6. It shares nothing with the queues.
 
 use crate::names::{outcome, wait, FULL_COUNT, INIT, LONGEST, PRIORITIES, SEMAPHORES, THREADS};
 use crate::table::{at, word, TABLE, WIDTH};
@@ -21,6 +21,7 @@ pub fn sound(table: &[u8]) -> bool {
         && wait_objects_fit(table)
         && mail_fits(table)
         && running_is_right(table)
+        && ready_word_is_right(table)
 }
 
 fn thread(table: &[u8], i: usize) -> &[u8] {
@@ -63,7 +64,7 @@ fn bytes_are_in_range(table: &[u8]) -> bool {
         && (0..THREADS).all(|i| thread_is_in_range(thread(table, i)))
         && (0..SEMAPHORES).all(|s| semaphore_is_in_range(semaphore(table, s)))
         && usize::from(table[at::RUNNING]) < THREADS
-        && all_zero(&table[at::LOCK + 1..])
+        && all_zero(&table[at::READY_WORD + 4..])
 }
 
 fn all_zero(bytes: &[u8]) -> bool {
@@ -181,4 +182,14 @@ fn running_is_right(table: &[u8]) -> bool {
     ready(running)
         && (table[at::LOCK] > 0
             || (running[at::PLACE] == 1 && Some(running[at::PRIORITY]) == highest))
+}
+
+/// Order 6: "bit p set exactly when ready line p has a member [..] a table where it is wrong is
+/// unsound"
+fn ready_word_is_right(table: &[u8]) -> bool {
+    let word = word(table, at::READY_WORD);
+    (0..PRIORITIES as u8).all(|p| {
+        let mut members = threads(table).filter(|(_, record)| line(record) == Some(Line::Ready(p)));
+        (word >> p & 1 == 1) == members.next().is_some()
+    })
 }

@@ -31,6 +31,8 @@ pub mod at {
     pub const RUNNING: usize = 24 * WIDTH;
     /// The lock count's byte, counted from the table's start.
     pub const LOCK: usize = 24 * WIDTH + 1;
+    /// The first of the ready word's four bytes, counted from the table's start.
+    pub const READY_WORD: usize = 24 * WIDTH + 2;
 
     /// The first byte of thread `i`.
     pub const fn thread(i: usize) -> usize {
@@ -55,7 +57,8 @@ pub(crate) fn put_word(bytes: &mut [u8], offset: usize, value: u32) {
     bytes[offset..offset + 4].copy_from_slice(&value.to_le_bytes());
 }
 
-/// "Fresh: Init in use, turn 10, counter 10, place 1, outcome 1; everything else 0."
+/// "Fresh: Init in use, turn 10, counter 10, place 1, outcome 1; everything else 0." Order 6: "A
+/// fresh table now holds 1 there."
 pub fn fresh() -> [u8; TABLE] {
     let mut table = [0; TABLE];
     let init = &mut table[at::thread(INIT)..at::thread(INIT) + WIDTH];
@@ -64,6 +67,7 @@ pub fn fresh() -> [u8; TABLE] {
     put_word(init, at::COUNTER, 10);
     init[at::PLACE] = 1;
     init[at::OUTCOME] = outcome::NONE_YET as u8;
+    put_word(&mut table, at::READY_WORD, 1);
     table
 }
 
@@ -145,6 +149,14 @@ pub(crate) fn write(kernel: &Kernel, table: &mut [u8]) {
     // "Kernel: byte 0 running thread, 1 lock count."
     table[at::RUNNING] = kernel.running as u8;
     table[at::LOCK] = kernel.lock;
+    put_word(table, at::READY_WORD, ready_word(kernel));
+}
+
+/// Order 6: "Keep a 32-bit word in kernel bytes 2 to 5, bit p set exactly when ready line p has a
+/// member". The model keeps none: it looks at its queues whenever a table is written.
+fn ready_word(kernel: &Kernel) -> u32 {
+    let lines = kernel.ready.iter().rev();
+    lines.fold(0, |word, line| word << 1 | u32::from(!line.is_empty()))
 }
 
 /// The thread's record without its place.

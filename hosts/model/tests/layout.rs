@@ -11,7 +11,8 @@ fn put(table: &mut [u8], index: usize, bytes: &[u8]) {
     table[index * 24..index * 24 + bytes.len()].copy_from_slice(bytes);
 }
 
-/// "Fresh: Init in use, turn 10, counter 10, place 1, outcome 1; everything else 0."
+/// "Fresh: Init in use, turn 10, counter 10, place 1, outcome 1; everything else 0." Order 6 gives
+/// kernel bytes 2 to 5 a meaning: "A fresh table now holds 1 there."
 #[test]
 fn fresh_is_init_and_zeros() {
     let mut want = [0; TABLE];
@@ -20,6 +21,7 @@ fn fresh_is_init_and_zeros() {
     want[7] = 1;
     want[8] = 10;
     want[12] = 10;
+    want[578] = 1;
     assert!(fresh() == want);
 }
 
@@ -197,7 +199,8 @@ fn a_busy_table_byte_for_byte() {
     );
     put(&mut want, 16 + 3, &[1, 99]);
     put(&mut want, 16 + 7, &[1, 0]);
-    put(&mut want, 24, &[12, 2]);
+    // Running thread, lock count; ready word: Init in line 0, threads 12 and 15 in line 30.
+    put(&mut want, 24, &[12, 2, 0x01, 0, 0, 0x40]);
     let results = "the second table is the one written by hand";
     assert!(
         board.table == want,

@@ -114,6 +114,12 @@ fn count_table(sorts: &mut Sorts, board: &Board) {
         "running with a turn in part used".into(),
         running.counter < running.turn,
     );
+    let word = board.ready_word();
+    for line in 0..32 {
+        count(sorts, format!("bit {line} {}", word >> line & 1), true);
+    }
+    let lines = word.count_ones().min(8);
+    count(sorts, format!("{lines} ready lines with members"), true);
     for s in 0..8 {
         let free = board.is_free(16 + s);
         count(sorts, "semaphore free".into(), free);
@@ -162,6 +168,9 @@ fn wanted() -> Vec<String> {
     for at in ["0", "1", "between", "the top"] {
         names.extend([format!("lock {at}"), format!("count {at}")]);
     }
+    names.push("bit 0 1".into());
+    names.extend((1..32).flat_map(|line| [0, 1].map(|bit| format!("bit {line} {bit}"))));
+    names.extend((1..=8).map(|lines| format!("{lines} ready lines with members")));
     let others = [
         "full of true",
         "full of false",

@@ -67,8 +67,10 @@ fn a_tick_under_lock_charges_nobody() {
     board.only_changed(&before, &[4]);
     assert_eq!(board.seen(4).counter, 1);
     board.ticks(1);
-    board.only_changed(&before, &[4]);
-    assert_eq!((board.running(), board.seen(4).place), (1, 1));
+    board.only_changed(&before, &[4, 24]);
+    assert_eq!(board.ready_word(), before.ready_word() | 1 << 20);
+    let kernel = (board.running(), board.lock());
+    assert_eq!((kernel, board.seen(4).place), ((1, 1), 1));
     board.expect(outcome_of(4), (0, 0));
     board.done(unlock());
     assert_eq!(board.running(), 4);

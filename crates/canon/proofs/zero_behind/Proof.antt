@@ -6,7 +6,7 @@ use native.Mathlib.Omega.{arith}
 use borrow.Author.Count.{below-more}
 use borrow.Author.Tests.{eqb-true, eq-eqb}
 use Rattle.laws.proofs.Bitwise.{or-none}
-use Rattle.canon.specs.Zero.{longAt}
+use Rattle.words.specs.Long.{longAt}
 use Rattle.canon.proofs.Zeros.{longs-behind}
 use Rattle.canon.proofs.zero_behind.Statement.{statement}
 use Rattle.canon.proofs.zero_behind.Tie as tie

@@ -1,39 +1,48 @@
--- `lines::close_gap` meets its contract: before turn j the first j threads have moved up, and in the line of number 0 nobody
--- stands. Assumes nothing.
-use mathlib.Core.List.{map}
-use mathlib.Core.Path.{_≡_, sym, ap, _∙_}
-use Prim.Native.Nat.{_≤_, _-_}
+-- `lines::close_gap` meets its contract: before turn j the first j threads have moved up, and the power is that of how many of them stand in
+-- the line. Assumes nothing.
+use mathlib.Core.Path.{_≡_, refl, ap, _∙_}
+use Prim.Native.Nat.{_^_, _≤_, _-_}
+use native.Mathlib.Nat.{pow-suc}
+use native.Mathlib.Numerals.{add-one}
 use native.Mathlib.Omega.{arith}
-use Rattle.rules.specs.Lines.{Line, moveUp}
-use Rattle.rules.specs.State.{free, withThreads}
+use borrow.Author.Needs.{needs}
+use lib.Seq.{take-all}
+use lib.ListN.{take}
+use Rattle.rules.specs.Basic.{count}
+use Rattle.rules.specs.Lines.{Line, inLine, moveUp}
+use Rattle.rules.specs.State.{State, free, withThreads}
 use Rattle.rules.specs.Board.{printer}
-use Rattle.layout.specs.Held.{Whole, Becomes, onThreads}
+use Rattle.laws.proofs.Turns.{mapTo, mapTo-none, mapTo-next, mapTo-turn, mapTo-all}
+use Rattle.layout.specs.Held.{Holds, Whole, Becomes, onThreads}
 use Rattle.layout.proofs.Held.{_⨾_, becomes-as, becomes-same, holds-on}
-use Rattle.lines.specs.Numbers.{lineNumber}
-use Rattle.laws.proofs.Turns.{mapTo, mapTo-none, mapTo-turn, mapTo-all}
-use Rattle.lines.proofs.Standing.{nobody-moves}
-use Rattle.lines.proofs.Numbered.{none-of}
+use Rattle.marks.specs.Numbers.{lineNumber}
+use Rattle.lines.proofs.Powers.{counted-turn, power-fits}
 use Rattle.lines.proofs.close_gap.Statement.{statement}
 use Rattle.lines.proofs.close_gap.Tie as tie
 
 abbrev Inv-loop : tie.InvT-loop
-Inv-loop t₀ line place j₀ t j = (j ≤ printer .threads) × Whole printer t × ((l : Line) → line ≡ lineNumber l → Becomes printer t₀ t (onThreads (mapTo (moveUp l place) j)))
+Inv-loop t₀ line place m power₀ j₀ t power j = (j ≤ printer .threads) × (1 ≤ power) × (power ≤ 2 ^ j) × Whole printer t
+    × ((s : State) (l : Line) → Holds printer t₀ s → line ≡ lineNumber l → power ≡ 2 ^ count (inLine l) (take j (s .threads)))
+    × ((l : Line) → line ≡ lineNumber l → Becomes printer t₀ t (onThreads (mapTo (moveUp l place) j)))
 
 abbrev μ-loop : tie.MeasureT-loop
-μ-loop t₀ line place j₀ t j = 16 - j
+μ-loop t₀ line place m power₀ j₀ t power j = 16 - j
 
-returns : tie.Need-returns Inv-loop μ-loop
-returns c =
-    λ l e. becomes-same (c .before .before .pre) (λ s h.
-    let nobody : map (moveUp l (c .before .before .args .place)) (s .threads) ≡ s .threads = rw (none-of l (sym (c .if1 .taken) ∙ e)) (nobody-moves (c .before .before .args .place) (s .threads)) in
-    ap (λ ts. withThreads ts s) (sym nobody))
+mark-of-requires : tie.Need-mark-of-requires Inv-loop μ-loop
+mark-of-requires c κs = search needs
 
 loop-holds : tie.Need-loop-holds Inv-loop μ-loop
-loop-holds c =
-    (omega arith, c .before .before .pre, λ l e. becomes-same (c .before .before .pre) (λ s h. ap (λ ts. withThreads ts s) (mapTo-none (moveUp l (c .before .before .args .place)) (s .threads))))
+loop-holds c = (
+  omega arith,
+  omega arith,
+  omega arith,
+  c .before .before .pre,
+  λ s l h e. refl,
+  λ l e. becomes-same (c .before .before .pre) (λ s h. ap (λ ts. withThreads ts s) (mapTo-none (moveUp l (c .before .before .args .place)) (s .threads))),
+)
 
 move-up-requires : tie.Need-move-up-requires Inv-loop μ-loop
-move-up-requires c κs = (c .before .loop-test .taken, c .before .before .loop .inv .1)
+move-up-requires c κs = (c .before .loop-test .taken, c .before .before .loop .inv .3, power-fits (c .before .before .loop .power) (c .before .before .loop .j) (c .before .before .loop .inv .2) (omega arith))
 
 add-j : tie.Need-add-j Inv-loop μ-loop
 add-j c = omega arith
@@ -43,22 +52,36 @@ loop-less c = omega arith
 
 loop-again : tie.Need-loop-again Inv-loop μ-loop
 loop-again c =
-    let start = c .before .before .before .before .before .before .before .before in
+    let q = c .before .before .before .before .before .before .before .before .args .place in
+    let j = c .before .before .before .before .before .loop .j in
     let turn = c .before .before .move-up .ensures in
-    let q = start .args .place in (
+    let before = c .before .before .before .before .before .loop .inv in
+    let mark = c .before .before .before .before .before .before .mark-of .ensures in (
       omega arith,
-      turn .0,
-      λ l e. becomes-as (c .before .before .before .before .before .loop .inv .2 l e ⨾ turn .1 l e)
-          (λ s h. ap (λ ts. withThreads ts s) (mapTo-turn (moveUp l q) (c .before .before .before .before .before .loop .j) (s .threads) free (omega (arith, holds-on h .threads)))),
+      omega (arith, turn .0 .0, before .1),
+      rw add-one (omega (arith, turn .0 .1, before .2, pow-suc 2 j)),
+      turn .1 .0,
+      λ s l h e. turn .1 .1 .0 (withThreads (mapTo (moveUp l q) j (s .threads)) s) l (before .5 l e .holds s h) (mark l e)
+          ∙ counted-turn (inLine l) (s .threads) j (omega (arith, holds-on h .threads)) (before .4 s l h e) (ap (inLine l) (mapTo-next (moveUp l q) j (s .threads) free)),
+      λ l e. becomes-as (before .5 l e ⨾ turn .1 .1 .1 l (mark l e))
+          (λ s h. ap (λ ts. withThreads ts s) (mapTo-turn (moveUp l q) j (s .threads) free (omega (arith, holds-on h .threads)))),
     )
 
-same-length : tie.Need-same-length Inv-loop μ-loop
-same-length c = omega (arith, c .before .loop .inv .1 .long)
+exponent-requires : tie.Need-exponent-requires Inv-loop μ-loop
+exponent-requires c κs = c .before .loop .inv .1
 
-returns-2 : tie.Need-returns-2 Inv-loop μ-loop
-returns-2 c =
-    let q = c .before .before .before .before .args .place in
-    λ l e. becomes-as (c .before .loop .inv .2 l e) (λ s h. ap (λ ts. withThreads ts s) (mapTo-all (moveUp l q) (c .before .loop .j) (s .threads) (omega (arith, holds-on h .threads))))
+same-length : tie.Need-same-length Inv-loop μ-loop
+same-length c = omega (arith, c .before .before .loop .inv .3 .long, c .before .before .before .before .before .pre .long)
+
+returns : tie.Need-returns Inv-loop μ-loop
+returns c =
+    let q = c .before .before .before .before .before .args .place in
+    let j = c .before .before .loop .j in
+    let after = c .before .before .loop .inv in (
+      λ s l h e. c .exponent .ensures (count (inLine l) (take j (s .threads))) (after .4 s l h e)
+          ∙ ap (count (inLine l)) (take-all j (s .threads) (omega (arith, holds-on h .threads))),
+      λ l e. becomes-as (after .5 l e) (λ s h. ap (λ ts. withThreads ts s) (mapTo-all (moveUp l q) j (s .threads) (omega (arith, holds-on h .threads)))),
+    )
 
 pub close-gap-spec : {M : Type 1} → statement M
 close-gap-spec =
@@ -66,11 +89,12 @@ close-gap-spec =
     (tie.spec
     Inv-loop
     μ-loop
-    returns
+    mark-of-requires
     loop-holds
     move-up-requires
     add-j
     loop-less
     loop-again
+    exponent-requires
     same-length
-    returns-2)
+    returns)

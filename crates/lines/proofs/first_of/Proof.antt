@@ -4,34 +4,38 @@ use mathlib.Core.Path.{_≡_, sym, _∙_}
 use Prim.Native.Nat.{ℕ, _≤_, _<_, _-_}
 use native.Mathlib.Omega.{arith}
 use borrow.Author.Count.{below-none, below-more}
+use borrow.Author.Needs.{needs}
 use Rattle.rules.specs.Table.{decode}
 use Rattle.rules.specs.Lines.{Line, isFirst}
 use Rattle.rules.specs.State.{State, free, at}
 use Rattle.rules.specs.Board.{printer}
-use Rattle.layout.proofs.Held.{said-on}
-use Rattle.lines.specs.Numbers.{lineNumber}
 use Rattle.laws.proofs.Turns.{find-at, find-none}
+use Rattle.layout.proofs.Held.{said-on, whole-says}
+use Rattle.marks.specs.Numbers.{lineNumber}
 use Rattle.lines.proofs.first_of.Statement.{statement}
 use Rattle.lines.proofs.first_of.Tie as tie
 
 abbrev Inv-loop : tie.InvT-loop
-Inv-loop t line j₀ j = (j ≤ printer .threads) × ((s : State) (l : Line) → decode printer t ≡ s → line ≡ lineNumber l → (k : ℕ) → k < j → isFirst l (at (s .threads) k) ≡ false)
+Inv-loop t line m j₀ j = (j ≤ printer .threads) × ((s : State) (l : Line) → decode printer t ≡ s → line ≡ lineNumber l → (k : ℕ) → k < j → isFirst l (at (s .threads) k) ≡ false)
 
 abbrev μ-loop : tie.MeasureT-loop
-μ-loop t line j₀ j = 16 - j
+μ-loop t line m j₀ j = 16 - j
+
+first-mark-requires : tie.Need-first-mark-requires Inv-loop μ-loop
+first-mark-requires c κs = search needs
 
 loop-holds : tie.Need-loop-holds Inv-loop μ-loop
 loop-holds c = (omega arith, λ s l e q. below-none _)
 
-leads-requires : tie.Need-leads-requires Inv-loop μ-loop
-leads-requires c κs = (c .loop-test .taken, c .before .before .before .pre)
+has-mark-requires : tie.Need-has-mark-requires Inv-loop μ-loop
+has-mark-requires c κs = (c .loop-test .taken, c .before .before .before .before .pre .long)
 
 returns : tie.Need-returns Inv-loop μ-loop
 returns c =
     let j = c .before .before .before .loop .j in (
       omega arith,
       λ s l e q. sym (find-at (isFirst l) free (s .threads) j (omega (arith, said-on printer _ e .threads)) (c .before .before .before .loop .inv .1 s l e q)
-          (sym (c .before .leads .ensures s l e q) ∙ c .if1 .taken)),
+          (sym (c .before .has-mark .ensures .1 .1 s l (whole-says (c .before .before .before .before .before .before .pre) e) (c .before .before .before .before .first-mark .ensures l q)) ∙ c .if1 .taken)),
     )
 
 add-j : tie.Need-add-j Inv-loop μ-loop
@@ -41,7 +45,10 @@ loop-less : tie.Need-loop-less Inv-loop μ-loop
 loop-less c = omega arith
 
 loop-again : tie.Need-loop-again Inv-loop μ-loop
-loop-again c = (omega arith, λ s l e q. below-more _ _ (c .before .before .before .loop .inv .1 s l e q) (sym (c .before .leads .ensures s l e q) ∙ c .if1 .left))
+loop-again c = (
+  omega arith,
+  λ s l e q. below-more _ _ (c .before .before .before .loop .inv .1 s l e q) (sym (c .before .has-mark .ensures .1 .1 s l (whole-says (c .before .before .before .before .before .before .pre) e) (c .before .before .before .before .first-mark .ensures l q)) ∙ c .if1 .left),
+)
 
 returns-2 : tie.Need-returns-2 Inv-loop μ-loop
 returns-2 c = (
@@ -57,8 +64,9 @@ first-of-spec =
     (tie.spec
     Inv-loop
     μ-loop
+    first-mark-requires
     loop-holds
-    leads-requires
+    has-mark-requires
     returns
     add-j
     loop-less

@@ -1,40 +1,40 @@
--- `lines::line_length` meets its contract: before turn j those of the first j threads are counted that stand in the line,
--- and nowhere nobody stands. Assumes nothing.
-use mathlib.Core.Path.{refl, _≡_, sym, ap, _∙_}
-use Prim.Native.Nat.{_≤_, _-_}
+-- `lines::line_length` meets its contract: before turn j the power is that of how many of the first j threads stand in the line. Assumes
+-- nothing.
+use mathlib.Core.Path.{refl, _≡_, ap, _∙_}
+use Prim.Native.Nat.{_^_, _≤_, _-_}
 use native.Mathlib.Omega.{arith}
+use borrow.Author.Needs.{needs}
 use lib.Seq.{take-all}
 use lib.ListN.{take}
 use Rattle.rules.specs.Table.{decode}
-use Rattle.rules.specs.Lines.{Line, inLine, lineLength}
-use Rattle.rules.specs.State.{State, free}
+use Rattle.rules.specs.Lines.{Line, inLine}
+use Rattle.rules.specs.State.{State}
 use Rattle.rules.specs.Board.{printer}
 use Rattle.rules.specs.Basic.{count}
-use Rattle.laws.proofs.Placed.{count-nowhere}
-use Rattle.layout.proofs.Held.{said-on}
-use Rattle.lines.specs.Numbers.{lineNumber}
-use Rattle.laws.proofs.Turns.{count-turn}
-use Rattle.lines.proofs.Numbered.{none-of}
+use Rattle.layout.proofs.Held.{said-on, whole-says}
+use Rattle.marks.specs.Numbers.{lineNumber}
+use Rattle.lines.proofs.Powers.{counted-turn, power-most, power-some, power-fits}
 use Rattle.lines.proofs.line_length.Statement.{statement}
 use Rattle.lines.proofs.line_length.Tie as tie
 
 abbrev Inv-loop : tie.InvT-loop
-Inv-loop t line n₀ j₀ n j = (j ≤ printer .threads) × (n ≤ j) × ((s : State) (l : Line) → decode printer t ≡ s → line ≡ lineNumber l → n ≡ count (inLine l) (take j (s .threads)))
+Inv-loop t line m power₀ j₀ power j = (j ≤ printer .threads) × (1 ≤ power) × (power ≤ 2 ^ j)
+    × ((s : State) (l : Line) → decode printer t ≡ s → line ≡ lineNumber l → power ≡ 2 ^ count (inLine l) (take j (s .threads)))
 
 abbrev μ-loop : tie.MeasureT-loop
-μ-loop t line n₀ j₀ n j = 16 - j
+μ-loop t line m power₀ j₀ power j = 16 - j
 
-returns : tie.Need-returns Inv-loop μ-loop
-returns c = λ s l e q. sym (ap (λ m. lineLength m (s .threads)) (none-of l (sym (c .if1 .taken) ∙ q)) ∙ count-nowhere (s .threads))
+mark-of-requires : tie.Need-mark-of-requires Inv-loop μ-loop
+mark-of-requires c κs = search needs
 
 loop-holds : tie.Need-loop-holds Inv-loop μ-loop
-loop-holds c = (omega arith, omega arith, λ s l e q. refl)
+loop-holds c = (omega arith, omega arith, omega arith, λ s l e q. refl)
 
-stands-requires : tie.Need-stands-requires Inv-loop μ-loop
-stands-requires c κs = (c .loop-test .taken, c .before .before .before .before .pre)
+has-mark-requires : tie.Need-has-mark-requires Inv-loop μ-loop
+has-mark-requires c κs = (c .loop-test .taken, c .before .before .before .before .pre .long)
 
-add-n : tie.Need-add-n Inv-loop μ-loop
-add-n c = omega (arith, c .stands .ensures .0)
+counted-requires : tie.Need-counted-requires Inv-loop μ-loop
+counted-requires c κs = power-fits (c .before .before .loop .power) (c .before .before .loop .j) (c .before .before .loop .inv .2) (omega arith)
 
 add-j : tie.Need-add-j Inv-loop μ-loop
 add-j c = omega arith
@@ -44,17 +44,23 @@ loop-less c = omega arith
 
 loop-again : tie.Need-loop-again Inv-loop μ-loop
 loop-again c =
-    let one = c .stands .ensures in
-    let j = c .before .before .loop .j in (
+    let j = c .before .before .before .loop .j in
+    let power = c .before .before .before .loop .power in
+    let more = c .before .has-mark .result in (
       omega arith,
-      omega (arith, one .0),
-      λ s l e q.
-          let more = count-turn (inLine l) free (s .threads) j (omega (arith, said-on printer _ e .threads)) in
-          omega (arith, c .before .before .loop .inv .2 s l e q, one .1 s l e q),
+      rw (c .counted .ensures) (power-some power more (c .before .before .before .loop .inv .1)),
+      rw (c .counted .ensures) (power-most power j more (c .before .before .before .loop .inv .2)),
+      λ s l e q. c .counted .ensures
+          ∙ counted-turn (inLine l) (s .threads) j (omega (arith, said-on printer _ e .threads)) (c .before .before .before .loop .inv .3 s l e q) (c .before .has-mark .ensures .1 .0 s l (whole-says (c .before .before .before .before .before .before .pre) e) (c .before .before .before .before .mark-of .ensures l q)),
     )
 
-returns-2 : tie.Need-returns-2 Inv-loop μ-loop
-returns-2 c = λ s l e q. c .before .loop .inv .2 s l e q ∙ ap (count (inLine l)) (take-all (c .before .loop .j) (s .threads) (omega (arith, said-on printer _ e .threads)))
+exponent-requires : tie.Need-exponent-requires Inv-loop μ-loop
+exponent-requires c κs = c .before .loop .inv .1
+
+returns : tie.Need-returns Inv-loop μ-loop
+returns c = λ s l e q.
+    c .exponent .ensures (count (inLine l) (take (c .before .before .loop .j) (s .threads))) (c .before .before .loop .inv .3 s l e q)
+    ∙ ap (count (inLine l)) (take-all (c .before .before .loop .j) (s .threads) (omega (arith, said-on printer _ e .threads)))
 
 pub line-length-spec : {M : Type 1} → statement M
 line-length-spec =
@@ -62,11 +68,12 @@ line-length-spec =
     (tie.spec
     Inv-loop
     μ-loop
-    returns
+    mark-of-requires
     loop-holds
-    stands-requires
-    add-n
+    has-mark-requires
+    counted-requires
     add-j
     loop-less
     loop-again
-    returns-2)
+    exponent-requires
+    returns)

@@ -1,27 +1,34 @@
--- `lines::to_tail` meets its contract: a record that stays as it is makes a move too. Assumes nothing.
-use mathlib.Core.Path.{sym, ap}
-use lib.Seq.{set-getD}
+-- `lines::to_tail` meets its contract: the last place of the line that a thread has left is as many as stood there, itself among them.
+-- Assumes nothing.
+use mathlib.Core.Path.{ap, sym, _∙_}
+use native.Mathlib.Omega.{arith}
 use borrow.Author.Needs.{needs}
-use Rattle.rules.specs.Lines.{leave, join, move}
-use Rattle.rules.specs.State.{free, withThreads}
-use Rattle.layout.proofs.Held.{_⨾_, becomes-as}
+use lib.Seq.{set-getD}
+use Rattle.rules.specs.Lines.{leave, filled, tailPlace, join, move}
+use Rattle.rules.specs.State.{free, edit, withPlace, withThreads}
+use Rattle.layout.proofs.Held.{_⨾_, becomes-as, holds-on}
+use Rattle.lines.proofs.Standing.{tail-left}
 use Rattle.lines.proofs.to_tail.Statement.{statement}
 use Rattle.lines.proofs.to_tail.Tie as tie
 
 leave-requires : tie.Need-leave-requires
 leave-requires c κs = search needs
 
-join-requires : tie.Need-join-requires
-join-requires c κs = search needs
+stand-at-requires : tie.Need-stand-at-requires
+stand-at-requires c κs = search needs
 
 same-length : tie.Need-same-length
 same-length c = search needs
 
 returns : tie.Need-returns
-unfolding move
+unfolding join move
 returns c =
-    let start = c .before .before .before .before .before .before .before .before .before in
-    becomes-as (c .before .before .before .before .before .before .leave .ensures ⨾ c .before .before .join .ensures .1) (λ s h. ap (λ ts. withThreads (join (start .args .i) ts) s) (sym (set-getD (leave (start .args .i) (s .threads)) (start .args .i) free)))
+    let i = c .before .before .before .before .before .before .before .before .before .args .i in
+    becomes-as (c .before .before .before .before .before .before .leave .ensures .1 ⨾ c .before .before .stand-at .ensures) (λ s h.
+    let ts = s .threads in
+    let last = c .before .before .before .before .before .before .leave .ensures .0 s (h .says) ∙ sym (tail-left i ts (omega (arith, c .before .before .before .before .before .before .before .before .before .pre .0, holds-on h .threads))) in
+    ap (λ q. withThreads (edit i (λ x. filled (withPlace q x)) (leave i ts)) s) last
+    ∙ ap (λ us. withThreads (edit i (λ x. filled (withPlace (tailPlace i us) x)) us) s) (sym (set-getD (leave i ts) i free)))
 
 pub to-tail-spec : {M : Type 1} → statement M
-to-tail-spec = tie.close (tie.spec leave-requires join-requires same-length returns)
+to-tail-spec = tie.close (tie.spec leave-requires stand-at-requires same-length returns)

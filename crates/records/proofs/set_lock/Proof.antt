@@ -16,7 +16,7 @@ same-length c = search needs
 
 returns : tie.Need-returns
 unfolding puts kernelRow
-returns c = kernel-written (c .pre) (λ r. r) (λ n. c .args .n) (put 1 (c .args .n) ∷ []) (λ r n. refl) refl
+returns c = kernel-written (c .pre) (λ r. r) (λ n. c .args .n) (put 1 (c .args .n) ∷ []) (λ r n v. refl) refl
 
 pub set-lock-spec : {M : Type 1} → statement M
 set-lock-spec = tie.close (tie.spec slice-write-t same-length returns)

@@ -19,7 +19,7 @@ same-length c = search needs
 
 returns : tie.Need-returns
 unfolding puts kernelRow
-returns c = kernel-written (c .pre .1) (λ r. c .args .i) (λ n. n) (put 0 (c .args .i) ∷ []) (λ r n. refl) refl
+returns c = kernel-written (c .pre .1) (λ r. c .args .i) (λ n. n) (put 0 (c .args .i) ∷ []) (λ r n v. refl) refl
 
 pub set-running-spec : {M : Type 1} → statement M
 set-running-spec = tie.close (tie.spec cast-t slice-write-t same-length returns)

@@ -1,7 +1,12 @@
 -- `threads::resume` meets its contract: each way out is a branch of the rule. Assumes nothing.
+use mathlib.Core.Bool.{false}
+use mathlib.Core.Path.{_≡_, sym, subst, _∙_}
 use borrow.Author.Needs.{needs}
 use Rattle.rules.specs.Threads.{doResume}
+use Rattle.rules.specs.State.{withSuspended}
+use Rattle.rules.specs.Lines.{line}
 use Rattle.rules.specs.Board.{printer}
+use Rattle.laws.proofs.Lines.{line-suspended}
 use Rattle.waiting.proofs.Doing.{does-nothing, then-does}
 use Rattle.waiting.proofs.There.{read-there}
 use Rattle.threads.proofs.resume.Statement.{statement}
@@ -27,10 +32,13 @@ returns-2 c = does-nothing (c .before .before .before .before .before .before .b
 is-waiting-requires : tie.Need-is-waiting-requires
 is-waiting-requires c κs = search needs
 
-set-suspended-requires : tie.Need-set-suspended-requires
-set-suspended-requires c κs =
-    let start = c .before .before .before .before .before .before .before .before .before .before in
-    (read-there printer _ (start .args .i) (c .before .before .before .before .before .before .before .thread-at .ensures) (c .before .before .before .before .before .if1 .left), start .pre .whole)
+edit-suspended-requires : tie.Need-edit-suspended-requires
+edit-suspended-requires c κs =
+    let th = c .before .before .before .before .before .before .before .thread-at in (
+      read-there printer _ (c .before .before .before .before .before .before .before .before .before .before .args .i) (th .ensures) (c .before .before .before .before .before .if1 .left),
+      c .before .before .before .before .before .before .before .before .before .before .pre .whole,
+      λ s e. subst (λ x. line (withSuspended false x) ≡ line x) (th .ensures s e) (line-suspended false (th .result) (sym (c .before .before .is-waiting .ensures) ∙ c .before .if3 .taken)),
+    )
 
 accept-requires : tie.Need-accept-requires
 accept-requires c κs = search needs
@@ -46,7 +54,7 @@ returns-3 c =
     let if2 = c .before .before .before .before .before .before .before .before .before .before .if2 in
     let is-waiting = c .before .before .before .before .before .before .before .before .before .is-waiting in
     let if3 = c .before .before .before .before .before .before .before .before .if3 in
-    then-does (c .before .before .before .before .before .before .set-suspended .ensures) (c .before .before .accept .ensures) (λ s h. rw (← thread-at .ensures s (h .says), if1 .left, if2 .left, ← is-waiting .ensures, if3 .taken))
+    then-does (c .before .before .before .before .before .before .edit-suspended .ensures) (c .before .before .accept .ensures) (λ s h. rw (← thread-at .ensures s (h .says), if1 .left, if2 .left, ← is-waiting .ensures, if3 .taken))
 
 restart-requires : tie.Need-restart-requires
 restart-requires c κs =
@@ -79,7 +87,7 @@ resume-spec =
     same-length-2
     returns-2
     is-waiting-requires
-    set-suspended-requires
+    edit-suspended-requires
     accept-requires
     same-length-3
     returns-3

@@ -1,8 +1,13 @@
 -- `threads::set` meets its contract: each way out is a branch of the rule. Assumes nothing.
+use mathlib.Core.Bool.{not, _&&_}
+use mathlib.Core.Path.{ap, sym, _∙_}
+use lib.Dec.{eqb}
 use borrow.Author.Tests.{lt-ltb, le-ltb, eq-eqb, ne-eqb}
 use borrow.Author.Needs.{needs}
 use Rattle.rules.specs.Threads.{doSet}
+use Rattle.rules.specs.State.{at, isReady}
 use Rattle.rules.specs.Board.{printer, topPriority}
+use Rattle.laws.proofs.Lines.{line-settings}
 use Rattle.waiting.proofs.Doing.{does-nothing, then-does}
 use Rattle.waiting.proofs.There.{read-there}
 use Rattle.threads.proofs.set.Statement.{statement}
@@ -70,8 +75,12 @@ returns-5 c =
 
 edit-settings-requires : tie.Need-edit-settings-requires
 edit-settings-requires c κs =
-    let start = c .before .before .before .before .before .before .before .before .before .before .before .before in
-    (read-there printer _ (start .args .i) (c .before .before .before .before .before .before .thread-at .ensures) (c .before .before .before .before .if3 .left), start .pre .whole)
+    let a = c .before .before .before .before .before .before .before .before .before .before .before .before .args in (
+      read-there printer _ (a .i) (c .before .before .before .before .before .before .thread-at .ensures) (c .before .before .before .before .if3 .left),
+      c .before .before .before .before .before .before .before .before .before .before .before .before .pre .whole,
+      λ s e. line-settings (a .priority) (a .turn) (at (s .threads) (a .i))
+          (ap (λ x. isReady x && not (eqb (x .priority) (a .priority))) (sym (c .before .before .before .before .before .before .thread-at .ensures s e)) ∙ sym (c .before .before .changes-line .ensures) ∙ c .before .if5 .left),
+    )
 
 accept-requires-2 : tie.Need-accept-requires-2
 accept-requires-2 c κs = search needs

@@ -1,7 +1,13 @@
 -- `threads::suspend` meets its contract: each way out is a branch of the rule. Assumes nothing.
+use mathlib.Core.Bool.{true}
+use mathlib.Core.Path.{_≡_, sym, subst, _∙_}
+use borrow.Author.Tests.{not-false}
 use borrow.Author.Needs.{needs}
 use Rattle.rules.specs.Threads.{doSuspend}
+use Rattle.rules.specs.State.{withSuspended}
+use Rattle.rules.specs.Lines.{line}
 use Rattle.rules.specs.Board.{printer}
+use Rattle.laws.proofs.Lines.{line-suspended, unready-waits}
 use Rattle.waiting.proofs.Doing.{does-nothing, then-does}
 use Rattle.waiting.proofs.There.{read-there}
 use Rattle.threads.proofs.suspend.Statement.{statement}
@@ -63,11 +69,14 @@ returns-4 c =
     let if4 = c .before .before .before .before .before .before .before .before .if4 in
     then-does (c .before .before .before .before .before .before .stop .ensures) (c .before .before .accept .ensures) (λ s h. rw (← thread-at .ensures s (h .says), ← is-ready .ensures, if4 .taken, if1 .left, if2 .left, ← is-bound .ensures s (h .says), if3 .left))
 
-set-suspended-requires : tie.Need-set-suspended-requires
-set-suspended-requires c κs =
-    let start = c .before .before .before .before .before .before .before .before .before .before .before .before in
-    let thread-at = c .before .before .before .before .before .before .before .before .before .thread-at in
-    (read-there printer _ (start .args .i) (thread-at .ensures) (c .before .before .before .before .before .before .before .if1 .left), start .pre .whole)
+edit-suspended-requires : tie.Need-edit-suspended-requires
+edit-suspended-requires c κs =
+    let th = c .before .before .before .before .before .before .before .before .before .thread-at in (
+      read-there printer _ (c .before .before .before .before .before .before .before .before .before .before .before .before .args .i) (th .ensures) (c .before .before .before .before .before .before .before .if1 .left),
+      c .before .before .before .before .before .before .before .before .before .before .before .before .pre .whole,
+      λ s e. subst (λ x. line (withSuspended true x) ≡ line x) (th .ensures s e)
+          (line-suspended true (th .result) (unready-waits (th .result) (not-false _ (c .before .before .before .before .before .before .before .if1 .left)) (c .before .before .before .before .before .before .if2 .left) (sym (c .before .before .is-ready .ensures) ∙ c .before .if4 .left))),
+    )
 
 accept-requires-2 : tie.Need-accept-requires-2
 accept-requires-2 c κs = search needs
@@ -85,7 +94,7 @@ returns-5 c =
     let if3 = c .before .before .before .before .before .before .before .before .before .before .if3 in
     let is-ready = c .before .before .before .before .before .before .before .before .before .is-ready in
     let if4 = c .before .before .before .before .before .before .before .before .if4 in
-    then-does (c .before .before .before .before .before .before .set-suspended .ensures) (c .before .before .accept2 .ensures) (λ s h. rw (← thread-at .ensures s (h .says), ← is-ready .ensures, if4 .left, if1 .left, if2 .left, ← is-bound .ensures s (h .says), if3 .left))
+    then-does (c .before .before .before .before .before .before .edit-suspended .ensures) (c .before .before .accept2 .ensures) (λ s h. rw (← thread-at .ensures s (h .says), ← is-ready .ensures, if4 .left, if1 .left, if2 .left, ← is-bound .ensures s (h .says), if3 .left))
 
 pub suspend-spec : {M : Type 1} → statement M
 suspend-spec =
@@ -104,7 +113,7 @@ suspend-spec =
     accept-requires
     same-length-4
     returns-4
-    set-suspended-requires
+    edit-suspended-requires
     accept-requires-2
     same-length-5
     returns-5)

@@ -32,7 +32,7 @@ returns c =
     let set-outcome = c .before .before .before .before .before .before .set-outcome in
     let join = c .before .before .join in (
       joined (start .args .i) (start .pre .0) (set-outcome .ensures .whole) (join .ensures .0) (join .ensures .1),
-      leave .ensures ⨾ edits (start .args .i) (withWait (start .args .w)) (withOutcome (start .args .outcome) (start .args .parcel)) (start .pre .0) (set-wait .ensures) (set-outcome .ensures) ⨾ join .ensures .1,
+      leave .ensures .1 ⨾ edits (start .args .i) (withWait (start .args .w)) (withOutcome (start .args .outcome) (start .args .parcel)) (start .pre .0) (set-wait .ensures) (set-outcome .ensures) ⨾ join .ensures .1,
     )
 
 pub change-wait-spec : {M : Type 1} → statement M

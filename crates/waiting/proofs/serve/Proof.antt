@@ -8,7 +8,7 @@ use Rattle.rules.specs.State.{withThreads}
 use Rattle.rules.specs.Board.{printer}
 use Rattle.layout.proofs.Held.{_⨾_, becomes-as, becomes-same}
 use Rattle.layout.specs.Held.{Whole, Becomes, onThreads}
-use Rattle.lines.specs.Numbers.{lineNumber}
+use Rattle.marks.specs.Numbers.{lineNumber}
 use Rattle.waiting.proofs.Waits.{serve-more}
 use Rattle.waiting.proofs.serve.Statement.{statement}
 use Rattle.waiting.proofs.serve.Tie as tie

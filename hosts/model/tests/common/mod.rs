@@ -122,6 +122,10 @@ impl Board {
         self.table[at::LOCK]
     }
 
+    pub fn ready_word(&self) -> u32 {
+        word(&self.table, at::READY_WORD)
+    }
+
     pub fn count(&self, s: usize) -> u8 {
         self.table[at::semaphore(s) + at::COUNT]
     }

@@ -68,7 +68,11 @@ pub fn init() -> Bullet {
         wide(0, COUNTER, 0),
     ];
     b.unsound("free", &[free(0)]);
-    b.unsound("priority 1", &[byte(0, PRIORITY, 1), byte(0, PLACE, 1)]);
+    let in_line_1 = ready_lines(&[0, 1, 5]);
+    b.unsound(
+        "priority 1",
+        &[byte(0, PRIORITY, 1), byte(0, PLACE, 1), in_line_1.clone()],
+    );
     b.unsound("suspended", &suspended);
     let states: [(&str, &dyn Fn(usize) -> Edit); 5] = [
         ("in a delay", &state(0, 1, 0, 0, 0)),
@@ -85,7 +89,7 @@ pub fn init() -> Bullet {
     b.sound("thread 10 free", &[free(10), first.clone()]);
     b.sound(
         "thread 10 at priority 1",
-        &[byte(10, PRIORITY, 1), first.clone()],
+        &[byte(10, PRIORITY, 1), first.clone(), in_line_1],
     );
     b.sound("first of its line", &[first, byte(10, PLACE, 2)]);
     b.sound("without mail", &[byte(0, FULL, 0), wide(0, VALUE, 0)]);

@@ -121,7 +121,11 @@ pub fn running_thread() -> Bullet {
         &[&turned[..], &[lock(1)]].concat(),
     );
     b.sound("2 runs at place 1", &[&turned[..], &[running(2)]].concat());
-    let raised = [byte(10, PRIORITY, 6), byte(0, PLACE, 1)];
+    let raised = [
+        byte(10, PRIORITY, 6),
+        byte(0, PLACE, 1),
+        ready_lines(&[0, 5, 6]),
+    ];
     b.unsound("1 runs while 10 outranks it", &raised);
     b.sound(
         "1 runs while 10 outranks it, lock 1",
@@ -131,7 +135,11 @@ pub fn running_thread() -> Bullet {
         "10 runs and outranks 1",
         &[&raised[..], &[running(10)]].concat(),
     );
-    let lowered = [byte(10, PRIORITY, 4), byte(0, PLACE, 1)];
+    let lowered = [
+        byte(10, PRIORITY, 4),
+        byte(0, PLACE, 1),
+        ready_lines(&[0, 4, 5]),
+    ];
     b.sound("1 runs and outranks 10", &lowered);
     b
 }

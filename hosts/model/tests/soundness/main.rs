@@ -1,14 +1,15 @@
-//! Soundness: a table unsound in each single way that document 01 names, and a sound one on the
-//! other side of each boundary. Each case is an edit of one rich sound table and names the
-//! bullet that an unsound one breaks.
+//! Soundness: a table unsound in each single way that document 01 and order 6 name, and a sound
+//! one on the other side of each boundary. Each case is an edit of one rich sound table and names
+//! the bullet that an unsound one breaks.
 
 mod bullet;
 mod fields;
 mod lines;
 mod mail;
 mod rich;
+mod word;
 
-use model::{door, show, sound, TABLE};
+use model::{at, door, show, sound, TABLE};
 use rich::{rich, Edit};
 
 /// A bullet's words, what the edit does, the edit, and whether the table is still sound.
@@ -17,6 +18,17 @@ pub struct Case {
     pub what: String,
     pub edits: Vec<Edit>,
     pub sound: bool,
+}
+
+impl Case {
+    /// The rich table with the edits.
+    fn table(&self) -> [u8; TABLE] {
+        let mut table = rich();
+        for edit in &self.edits {
+            edit.apply(&mut table);
+        }
+        table
+    }
 }
 
 /// The list of cases, bullet by bullet.
@@ -29,6 +41,7 @@ fn all_cases() -> Vec<Case> {
         mail::wait_objects(),
         mail::mail(),
         lines::running_thread(),
+        word::ready_word(),
     ];
     bullets
         .into_iter()
@@ -45,10 +58,7 @@ fn the_rich_table_is_sound() {
 fn each_edit_is_judged_as_its_bullet_says() {
     let cases = all_cases();
     for case in &cases {
-        let mut table = rich();
-        for edit in &case.edits {
-            edit.apply(&mut table);
-        }
+        let mut table = case.table();
         let (got, want) = (sound(&table), case.sound);
         let text = show(&table);
         let (bullet, what) = (case.bullet, &case.what);
@@ -63,6 +73,32 @@ fn each_edit_is_judged_as_its_bullet_says() {
     println!("{} unsound and {} sound edits", count(false), count(true));
 }
 
+/// The word that the threads' bytes ask for: each that is in use, not suspended and without a wait
+/// sets the bit of its priority.
+fn asked_for(table: &[u8]) -> u32 {
+    let threads = table[..16 * 24].chunks(24);
+    let ready = threads.filter(|thread| (thread[0], thread[2], thread[3]) == (1, 0, 0));
+    ready.fold(0, |word, thread| word | 1 << thread[1])
+}
+
+/// What breaks another bullet does not break this one too, so that a case is unsound in a single
+/// way.
+#[test]
+fn only_its_own_bullet_has_the_ready_word_wrong() {
+    for case in all_cases() {
+        let (is_its_own, table) = (case.bullet == word::WORDS, case.table());
+        let is_right = model::word(&table, at::READY_WORD) == asked_for(&table);
+        assert_eq!(
+            is_right,
+            case.sound || !is_its_own,
+            "{}: {}\n{}",
+            case.bullet,
+            case.what,
+            show(&table)
+        );
+    }
+}
+
 #[test]
 fn only_the_length_600_is_sound() {
     let mut long = rich().to_vec();
@@ -73,7 +109,7 @@ fn only_the_length_600_is_sound() {
 }
 
 /// Bytes of which every change is unsound whatever the table: those of no meaning and those of
-/// free records.
+/// free records. Of the kernel's record these are bytes 6 to 23.
 #[test]
 fn bytes_of_no_meaning_and_of_free_records_are_zero() {
     let mut offsets: Vec<usize> = Vec::new();
@@ -86,7 +122,7 @@ fn bytes_of_no_meaning_and_of_free_records_are_zero() {
     for free in 20..24 {
         offsets.extend(free * 24 + 1..free * 24 + 24);
     }
-    offsets.extend(24 * 24 + 2..TABLE);
+    offsets.extend(24 * 24 + 6..TABLE);
     for offset in offsets {
         for value in 1..=255 {
             let mut table = rich();

@@ -67,12 +67,23 @@ pub fn lock(count: u8) -> Edit {
     byte(24, 1, count)
 }
 
+/// The ready word.
+pub fn word(bits: u32) -> Edit {
+    wide(24, 2, bits)
+}
+
+/// The ready word with the bits of these ready lines, and with no other.
+pub fn ready_lines(lines: &[u32]) -> Edit {
+    word(lines.iter().fold(0, |bits, line| bits | 1 << line))
+}
+
 const FAILED: u8 = 0xFB;
 
 /// Threads 0 to 11 stand in every state that there is, some suspended. Init is at place 2 of its
 /// line behind thread 10 and has mail; 1 runs before 2; 3 is suspended; 4 is in a delay with a
 /// full mailbox of value 0; 5 receives; 6 and 7 send to 2; 9 and 8 wait on semaphore 1; 11 is
-/// suspended in a delay. Semaphores 0 to 3 have counts 99, 0, 0 and 1.
+/// suspended in a delay. Semaphores 0 to 3 have counts 99, 0, 0 and 1. Of the ready lines 0 and 5
+/// have members: all that there are of priorities 9 and 31 wait or are suspended.
 pub fn rich() -> [u8; TABLE] {
     let edits = [
         whole(0, [1, 0, 0, 0, 0, 2, 1, FAILED], [10, 10, 7, 0]),
@@ -93,6 +104,7 @@ pub fn rich() -> [u8; TABLE] {
         whole(19, [1, 1, 0, 0, 0, 0, 0, 0], [0; 4]),
         running(1),
         lock(0),
+        ready_lines(&[0, 5]),
     ];
     let mut table = [0; TABLE];
     for edit in edits {

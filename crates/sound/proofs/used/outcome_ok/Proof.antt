@@ -3,7 +3,7 @@ use mathlib.Core.Path.{sym, _∙_}
 use borrow.Author.Tests.{not-true, not-false}
 use borrow.Author.Needs.{needs}
 use Rattle.sound.specs.Tested.{outcomeOk}
-use Rattle.sound.proofs.Order.{idle-senderWords, none-done}
+use Rattle.sound.proofs.Order.{idle-sends, none-done}
 use Rattle.sound.proofs.used.outcome_ok.Statement.{statement}
 use Rattle.sound.proofs.used.outcome_ok.Tie as tie
 
@@ -15,11 +15,11 @@ is-done-requires c κs = search needs
 
 returns : tie.Need-returns
 unfolding outcomeOk
-returns c = c .if2 .taken ∙ rw (sym (c .before .before .before .is-waiting .ensures) ∙ not-true _ (c .before .before .if1 .taken), idle-senderWords (c .before .before .before .before .args .w) (sym (c .before .before .before .is-waiting .ensures) ∙ not-true _ (c .before .before .if1 .taken)), sym (c .before .is-done .ensures) ∙ c .if2 .taken)
+returns c = c .if2 .taken ∙ rw (sym (c .before .before .before .is-waiting .ensures) ∙ not-true _ (c .before .before .if1 .taken), idle-sends (c .before .before .before .before .args .w) (sym (c .before .before .before .is-waiting .ensures) ∙ not-true _ (c .before .before .if1 .taken)), sym (c .before .is-done .ensures) ∙ c .if2 .taken)
 
 returns-2 : tie.Need-returns-2
 unfolding outcomeOk
-returns-2 c = rw (sym (c .before .before .before .is-waiting .ensures) ∙ not-true _ (c .before .before .if1 .taken), idle-senderWords (c .before .before .before .before .args .w) (sym (c .before .before .before .is-waiting .ensures) ∙ not-true _ (c .before .before .if1 .taken)), sym (c .before .is-done .ensures) ∙ c .if2 .left)
+returns-2 c = rw (sym (c .before .before .before .is-waiting .ensures) ∙ not-true _ (c .before .before .if1 .taken), idle-sends (c .before .before .before .before .args .w) (sym (c .before .before .before .is-waiting .ensures) ∙ not-true _ (c .before .before .if1 .taken)), sym (c .before .is-done .ensures) ∙ c .if2 .left)
 
 is-none-yet-requires : tie.Need-is-none-yet-requires
 is-none-yet-requires c κs = search needs

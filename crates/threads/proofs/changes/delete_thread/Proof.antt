@@ -39,7 +39,7 @@ returns c =
     let line-length = c .before .before .before .before .before .before .before .before .before .before .before .before .before .before .before .before .line-length in
     let leave = c .before .before .before .before .before .before .before .before .before .before .before .before .before .before .leave in
     let free-thread = c .before .before .before .before .before .before .before .before .before .before .free-thread in
-    let i = start .args .i in becomes-as (leave .ensures ⨾ free-thread .ensures ⨾ c .before .before .before .before .before .before .join .ensures .1 ⨾ c .before .before .serve .ensures (senders i) (senders-line .ensures)) (λ s h. ap (λ n. withThreads (serve n (senders i) Failed (move i (λ x. free) (s .threads))) s) (line-length .ensures s (senders i) (h .says) (senders-line .ensures)))
+    let i = start .args .i in becomes-as (leave .ensures .1 ⨾ free-thread .ensures ⨾ c .before .before .before .before .before .before .join .ensures .1 ⨾ c .before .before .serve .ensures (senders i) (senders-line .ensures)) (λ s h. ap (λ n. withThreads (serve n (senders i) Failed (move i (λ x. free) (s .threads))) s) (line-length .ensures s (senders i) (h .says) (senders-line .ensures)))
 
 pub delete-thread-spec : {M : Type 1} → statement M
 delete-thread-spec =

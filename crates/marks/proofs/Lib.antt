@@ -1,0 +1,3 @@
+-- Laws of lines by number and by mark.
+pub mod Numbered
+pub mod Marked

@@ -1,0 +1,3 @@
+-- Laws of the ready word that functions cite.
+pub mod Mended
+pub mod Topmost

@@ -1,0 +1,2 @@
+-- Words for the ready word.
+pub mod Word

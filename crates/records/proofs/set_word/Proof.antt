@@ -1,0 +1,19 @@
+-- `records::set_word` meets its contract: the four bytes written make the row of the kernel with that word. Assumes nothing.
+use borrow.Author.Needs.{needs}
+use Rattle.layout.specs.Bytes.{puts}
+use Rattle.layout.proofs.Held.{word-written}
+use Rattle.records.proofs.set_word.Statement.{statement}
+use Rattle.records.proofs.set_word.Tie as tie
+
+put-word-requires : tie.Need-put-word-requires
+put-word-requires c κs = search needs
+
+same-length : tie.Need-same-length
+same-length c = search needs
+
+returns : tie.Need-returns
+unfolding puts
+returns c = word-written (c .before .before .before .before .before .args .word) (c .before .before .put-word .ensures)
+
+pub set-word-spec : {M : Type 1} → statement M
+set-word-spec = tie.close (tie.spec put-word-requires same-length returns)

@@ -1,0 +1,2 @@
+-- Words for numbers of more than four bytes.
+pub mod Long
