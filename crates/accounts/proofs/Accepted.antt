@@ -5,8 +5,9 @@ use mathlib.Core.Path.{_≡_, refl, sym, ap, _∙_}
 use mathlib.Core.List.{List}
 use Prim.Native.Nat.{ℕ, zero, suc, _<_}
 use native.Mathlib.Omega.{arith}
+use native.Mathlib.Decide.{ℕ-discrete}
 use lib.Dec.{eqb, leb}
-use borrow.Author.Tests.{leb-false, ne-eqb}
+use borrow.Author.Tests.{leb-false, eqb-true, eq-eqb, ne-eqb}
 use lib.IntN.{ℤ, pos, negsuc}
 use lib.ListN.{length}
 use mir.Syntax.{w32}
@@ -17,7 +18,7 @@ use Rattle.rules.specs.State.{State, at}
 use Rattle.rules.specs.Table.{decode}
 use Rattle.rules.specs.Answers.{codeOf, areaLength}
 use Rattle.rules.specs.Requests.{decodeRequest}
-use Rattle.rules.specs.Sound.{Sound}
+use Rattle.rules.specs.Sound.{Sound, SoundTable}
 use Rattle.rules.specs.Test.{soundTable}
 use Rattle.rules.specs.Waiting.{Step}
 use Rattle.rules.specs.Threads.{badPriority, badTicks, doCreate}
@@ -29,20 +30,35 @@ use Rattle.rules.specs.declared.Decoded.the-variants.{Asked}
 use Rattle.laws.proofs.Split.{is, isnt, test, clash, and-true, or-false, if-case}
 use Rattle.laws.proofs.Lines.{ready-used}
 use Rattle.laws.proofs.Members.{used-range}
-use Rattle.laws.proofs.Tested.{tested-table}
+use Rattle.laws.proofs.Tested.{tested-table, let-in}
 use Rattle.layout.proofs.RoundTrip.{on-decode}
 use Rattle.fairness.specs.Run.{deedOf, isZero}
 use Rattle.accounts.specs.Accounts.{Finds}
 
 -- THE CODE, as a number of 32 bits
 
-pub code-zero : (z : ℤ) → SFits w32 z → ofZ w32 z ≡ 0 → isZero z ≡ true
+code-zero : (z : ℤ) → SFits w32 z → ofZ w32 z ≡ 0 → isZero z ≡ true
 code-zero z f e = ap isZero (sym (toZ-ofZ w32 z f) ∙ ap (toZ w32) e)
 
-pub code-other : (z : ℤ) → (ofZ w32 z ≡ 0 → ⊥) → isZero z ≡ false
+code-other : (z : ℤ) → (ofZ w32 z ≡ 0 → ⊥) → isZero z ≡ false
 code-other (pos zero) h = absurd (h refl)
 code-other (pos (suc n)) h = ne-eqb (suc n) 0 (λ e. omega arith)
 code-other (negsuc n) h = refl
+
+pub code-is : (z : ℤ) → SFits w32 z → eqb (ofZ w32 z) 0 ≡ isZero z
+code-is z f = elim (ℕ-discrete (ofZ w32 z) 0) [
+  | yes e ↦ eq-eqb (ofZ w32 z) 0 e ∙ sym (code-zero z f e)
+  | no k ↦ ne-eqb (ofZ w32 z) 0 k ∙ sym (code-other z k)
+]
+
+-- THE TABLE is sound
+
+pub on-sound : (b : Board) (t r a : List ℕ) → isZero (door b t r a .code) ≡ true → SoundTable b t × (length a ≡ areaLength)
+unfolding door
+on-sound b t r a z = elim (test (eqb (length a) areaLength && soundTable b t)) [
+  | is k ↦ let x = and-true (eqb (length a) areaLength) (soundTable b t) k in (tested-table b t .0 (x .1), eqb-true (length a) areaLength (x .0))
+  | isnt k ↦ absurd (clash (rw k at z) refl)
+]
 
 -- WHO IS FOUND
 
@@ -77,10 +93,11 @@ step-finds s (Ask.PostFromInterrupt k n) σ z = tt
 step-finds s Ask.Lock σ z = tt
 step-finds s Ask.Unlock σ z = tt
 step-finds s (Ask.Outcome i) σ z = tt
+step-finds s (Ask.Ticks n) σ z = tt
+step-finds s Ask.Nearest σ z = tt
 
 pub finds : (b : Board) (t r a : List ℕ) (q : Request) → decodeRequest r ≡ Asked q → isZero (door b t r a .code) ≡ true → Finds (b .threads) (deedOf q) (decode b t .running)
 unfolding door serveDecoded
-finds b t r a q e z = elim (test (eqb (length a) areaLength && soundTable b t)) [
-  | is k ↦ rw (on-decode b t .threads) at (step-finds (decode b t) q (tested-table b t .0 (and-true (eqb (length a) areaLength) (soundTable b t) k .1) .state) (rw (k, e) at z))
-  | isnt k ↦ absurd (clash (rw k at z) refl)
-]
+finds b t r a q e z =
+    let x = on-sound b t r a z in
+    rw (on-decode b t .threads) at (step-finds (decode b t) q (x .0 .state) (rw (let-in b t r a (x .0) (x .1), e) at z))

@@ -3,15 +3,16 @@
 use mathlib.Core.Bool.{true, false}
 use mathlib.Core.Path.{_≡_, refl, sym, ap, _∙_}
 use mathlib.Core.List.{List, [], _∷_, _++_}
-use Prim.Native.Nat.{ℕ, zero, suc, _+_, _-_, _≤_, _<_}
+use Prim.Native.Nat.{ℕ, zero, suc, _+_, _-_, _*_, _≤_, _<_}
 use native.Mathlib.Nat.{not-suc-le-zero, le-of-suc-le-suc}
 use native.Mathlib.Omega.{arith}
 use lib.Dec.{eqb}
 use borrow.Author.Tests.{eqb-true, eqb-false}
 use lib.ListN.{length, set, length-set}
 use lib.Seq.{ext-getD, getD-set-same, getD-set-other}
+use Rattle.rules.specs.Board.{mostTicks}
 use Rattle.laws.proofs.Split.{is, isnt, test, and-off}
-use Rattle.fairness.specs.Run.{Event, Deed, tick, yield, other, change, create, deed, accepted, chargedTo}
+use Rattle.fairness.specs.Run.{Event, Deed, tick, yield, other, change, create, sleep, deed, accepted, chargedTo}
 use Rattle.lanes.specs.Lag.{makes, creates, accountFrom}
 use Rattle.lanes.proofs.Lag.{account-append, account-most}
 use Rattle.lanes.specs.Kept.{of, Within}
@@ -45,14 +46,14 @@ accounts-append i (n ∷ ns) xs ys = λ j. account-append i n xs ys j ∷ accoun
 -- THE MOST
 
 -- a run adds at most one tick for each event
-grown : (k : ℕ) (ns : List ℕ) (run : List Event) (i : ℕ) → of (accountsFrom k ns run) i ≤ of ns i + length run
+pub grown : (k : ℕ) (ns : List ℕ) (run : List Event) (i : ℕ) → of (accountsFrom k ns run) i ≤ of ns i + length run
 unfolding accountsFrom
 grown k [] run i = omega arith
 grown k (n ∷ ns) run zero = account-most k n run
 grown k (n ∷ ns) run (suc i) = grown (suc k) ns run i
 
-pub still-within : (k : ℕ) (ns : List ℕ) (run : List Event) → length run ≤ k → Within k ns → Within (k - length run) (accountsFrom 0 ns run)
-still-within k ns run h w i = omega (arith, w i, grown 0 ns run i)
+pub still-within : (j k : ℕ) (ns : List ℕ) (run : List Event) → j ≤ k → length run ≤ mostTicks * j → Within k ns → Within (k - j) (accountsFrom 0 ns run)
+still-within j k ns run l h w i = omega (arith, w i, grown 0 ns run i)
 
 -- ONE EVENT
 
@@ -79,6 +80,7 @@ module _ (e : Event) (ns : List ℕ) where
     by-deed yield k = none-changed (λ i. rw k) (λ i. rw k)
     by-deed other k = none-changed (λ i. rw k) (λ i. rw k)
     by-deed (change j) k = none-changed (λ i. rw k) (λ i. rw k)
+    by-deed (sleep j) k = none-changed (λ i. rw k) (λ i. rw k)
     by-deed (create j) k = by-each (set ns j 0) (length-set ns j 0) (λ i h. elim (test (eqb j i)) [
       | is q ↦ rw (k, a, q, eqb-true j i q) (sym (getD-set-same ns i 0 0 h))
       | isnt q ↦ rw (k, a, q) (omega (arith, getD-set-other ns j i 0 0 (λ x. eqb-false j i q (sym x))))

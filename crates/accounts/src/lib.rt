@@ -1,21 +1,22 @@
-// What each thread is charged while the records of a trace are served: a tick is entered to the thread that was running, and a creation begins
-// the thread's account anew. `specs/Accounts.antt` says what some records make of the accounts.
-ghost use mathlib.Core.List.{[], _∷_};
+// What each thread is charged while the records of a trace are served: a tick is entered to the thread that was running, ticks that are done at
+// once are entered by the leaps that they are, and a creation begins the thread's account anew. `specs/Accounts.antt` says what some records make of
+// the accounts.
 ghost use mathlib.Core.Path.{_≡_};
 ghost use Prim.Native.Nat.{_+_, _-_, _*_, _≤_, _<_};
 ghost use lib.ListN.{length, take, drop};
 ghost use lib.Seq.{sets};
 ghost use Rattle.rules.specs.Board.{printer, tableLength};
-ghost use Rattle.rules.specs.Requests.{requestLength};
+ghost use Rattle.rules.specs.Requests.{requestLength, decodeRequest};
 ghost use Rattle.rules.specs.Door.{door, tableAfter};
-ghost use Rattle.rules.specs.Trace.{cleanArea, cleanly};
-ghost use Rattle.fairness.specs.Run.{deedOf};
-ghost use Rattle.fairness.specs.Doors.{eventOf};
+ghost use Rattle.rules.specs.Trace.{cleanArea};
+ghost use Rattle.fairness.specs.Run.{deedOf, deed, atOnce, isZero};
 ghost use Rattle.lanes.specs.Report.{mostRecords};
 ghost use Rattle.lanes.specs.Kept.{Within, Kept};
-ghost use Rattle.accounts.specs.Accounts.{accountsFrom, entered, handed, eventsOf, servable, Finds};
+ghost use Rattle.accounts.specs.Accounts.{accountsFrom, entered, eventsHere, handed, eventsOf, servable, Finds};
 use rules::Decoded;
 use rules::Request;
+
+mod charges;
 
 // So many records are served, and no more.
 pub const MOST_RECORDS: usize = 1000000;
@@ -43,25 +44,88 @@ fn enter(accounts: &mut [u64], request: Request, ran: usize, lock: u8)
     }
 }
 
+// How many ticks are asked for at once; 0 where none are.
+fn at_once(decoded: Decoded) -> u32
+    ensures { λ r. ⌜ r ≡ atOnce (deed decoded) ⌝ }
+{
+    let Decoded::Asked { request } = decoded else {
+        return 0;
+    };
+    let Request::Ticks { number } = request else {
+        return 0;
+    };
+    number
+}
+
+// The record that starts at `at` is served. Whether it is accepted is given back.
+fn serve_one(table: &mut [u8], input: &[u8], at: usize) -> bool
+    requires { ⌜ at + requestLength ≤ length (now input) ⌝ }
+    ensures accepted { λ r. ⌜ r ≡ isZero (door printer (now (table .entry)) (take requestLength (drop at (now (input .entry)))) cleanArea .code) ⌝ }
+    ensures table { λ _. ⌜ now (table .exit) ≡ door printer (now (table .entry)) (take requestLength (drop at (now (input .entry)))) cleanArea .table ⌝ }
+{
+    let mut area = [0u8; rules::AREA];
+    let code = kernel::speltmallet_door(table, &input[at..at + rules::REQUEST], &mut area);
+    code == 0
+}
+
+// One that asks for no ticks at once is entered if it is accepted.
+fn serve_request(table: &mut [u8], accounts: &mut [u64], input: &[u8], at: usize, decoded: Decoded)
+    requires { ⌜ length (now table) ≡ tableLength printer ⌝ }
+    requires { ⌜ Kept 1 (now accounts) ⌝ }
+    requires { ⌜ (at + requestLength ≤ length (now input)) × (decoded ≡ decodeRequest (take requestLength (drop at (now input)))) × (atOnce (deed decoded) ≡ 0) ⌝ }
+    ensures table { λ _. ⌜ now (table .exit) ≡ door printer (now (table .entry)) (take requestLength (drop at (now (input .entry)))) cleanArea .table ⌝ }
+    ensures accounts { λ _. ⌜ now (accounts .exit) ≡ accountsFrom 0 (now (accounts .entry)) (eventsHere (now (table .entry)) (take requestLength (drop at (now (input .entry))))) ⌝ }
+{
+    let ran = records::running(table);
+    let lock = records::lock(table);
+    if !serve_one(table, input, at) {
+        return;
+    }
+    let Decoded::Asked { request } = decoded else {
+        return;
+    };
+    enter(accounts, request, ran, lock);
+}
+
+// A copy of the table.
+fn copy_of(table: &[u8]) -> [u8; rules::TABLE]
+    requires { ⌜ length (now table) ≡ tableLength printer ⌝ }
+    ensures { λ r. ⌜ r ≡ now (table .entry) ⌝ }
+{
+    let mut copy = [0u8; rules::TABLE];
+    text::put_bytes(&mut copy, 0, table);
+    copy
+}
+
+// One that asks for `n` ticks at once, if it is accepted: they are done on a copy of the table that it found too, and entered.
+fn serve_ticks(table: &mut [u8], accounts: &mut [u64], input: &[u8], at: usize, n: u32)
+    requires { ⌜ length (now table) ≡ tableLength printer ⌝ }
+    requires { ⌜ Kept 1 (now accounts) ⌝ }
+    requires { ⌜ (at + requestLength ≤ length (now input)) × (atOnce (deed (decodeRequest (take requestLength (drop at (now input))))) ≡ n) × (1 ≤ n) ⌝ }
+    ensures table { λ _. ⌜ now (table .exit) ≡ door printer (now (table .entry)) (take requestLength (drop at (now (input .entry)))) cleanArea .table ⌝ }
+    ensures accounts { λ _. ⌜ now (accounts .exit) ≡ accountsFrom 0 (now (accounts .entry)) (eventsHere (now (table .entry)) (take requestLength (drop at (now (input .entry))))) ⌝ }
+{
+    let mut before = copy_of(table);
+    if serve_one(table, input, at) {
+        charges::enter_ticks(accounts, &mut before, n);
+    }
+}
+
 // The record that starts at `at` is served, and entered if it is accepted.
 fn serve_record(table: &mut [u8], accounts: &mut [u64], input: &[u8], at: usize)
     requires { ⌜ length (now table) ≡ tableLength printer ⌝ }
     requires { ⌜ Kept 1 (now accounts) ⌝ }
     requires { ⌜ at + requestLength ≤ length (now input) ⌝ }
     ensures table { λ _. ⌜ now (table .exit) ≡ door printer (now (table .entry)) (take requestLength (drop at (now (input .entry)))) cleanArea .table ⌝ }
-    ensures accounts { λ _. ⌜ now (accounts .exit) ≡ accountsFrom 0 (now (accounts .entry)) (eventOf printer (now (table .entry)) (cleanly (take requestLength (drop at (now (input .entry))))) (door printer (now (table .entry)) (take requestLength (drop at (now (input .entry)))) cleanArea) ∷ []) ⌝ }
+    ensures accounts { λ _. ⌜ now (accounts .exit) ≡ accountsFrom 0 (now (accounts .entry)) (eventsHere (now (table .entry)) (take requestLength (drop at (now (input .entry))))) ⌝ }
 {
-    let ran = records::running(table);
-    let lock = records::lock(table);
-    let mut area = [0u8; rules::AREA];
-    let code = kernel::speltmallet_door(table, &input[at..at + rules::REQUEST], &mut area);
-    if code != 0 {
-        return;
+    let decoded = request::decode(&input[at..at + rules::REQUEST]);
+    let n = at_once(decoded);
+    if n == 0 {
+        serve_request(table, accounts, input, at, decoded);
+    } else {
+        serve_ticks(table, accounts, input, at, n);
     }
-    let Decoded::Asked { request } = request::decode(&input[at..at + rules::REQUEST]) else {
-        return;
-    };
-    enter(accounts, request, ran, lock);
 }
 
 // The first `k` records are served and entered.

@@ -6,4 +6,5 @@ pub mod Operations
 pub mod View
 pub mod Ticks
 pub mod Fair
+pub mod Calls
 pub mod Doors

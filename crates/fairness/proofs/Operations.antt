@@ -1,6 +1,6 @@
 -- Every operation but a tick's charge keeps the rank, where the rank's ready set comes out the same: whom it moves is no member, or has
 -- left the set. Assumes nothing.
-use mathlib.Core.Bool.{Bool, true, false, not, _&&_, _||_}
+use mathlib.Core.Bool.{Bool, true, false, true≢false, not, _&&_, _||_}
 use mathlib.Core.Path.{_≡_, refl, ap, sym, _∙_}
 use mathlib.Core.List.{List}
 use Prim.Native.Nat.{ℕ, zero, suc, pred, _<_}
@@ -18,6 +18,7 @@ use Rattle.rules.specs.Threads.{badPriority, badTicks, noThread, doYield, doCre
 use Rattle.rules.specs.Mail.{delivered, doSend, doSendFromInterrupt, emptied, doReceive}
 use Rattle.rules.specs.Semaphores.{doMake, doDrop, doPend, doAbort, posted, doPost, doPostFromInterrupt}
 use Rattle.rules.specs.Time.{doLock, doUnlock, timedOut, countDown, timeouts, doOutcome}
+use Rattle.rules.specs.Sleep.{doTicks, doNearest}
 use Rattle.rules.specs.declared.Thread.{Thread}
 use Rattle.rules.specs.declared.Wait.{Wait}
 use Rattle.rules.specs.declared.Wait.the-variants as Waits
@@ -27,6 +28,8 @@ use Rattle.rules.specs.Steps.{step}
 use Rattle.rules.specs.declared.Request.{Request}
 use Rattle.rules.specs.declared.Request.the-variants as Ask
 use Rattle.rules.specs.declared.Answer.{Answer}
+use Rattle.rules.specs.declared.Answer.the-variants.{Refused}
+use Rattle.rules.specs.declared.Refusal.the-variants.{BadTicks}
 use Rattle.laws.proofs.Split.{is, isnt, test, clash, and-true, or-false, if-case}
 use Rattle.laws.proofs.Lines.{same-eq, line-filled, waiting-out, unready-out, free-out, suspended-out}
 use Rattle.laws.proofs.Members.{in-range}
@@ -199,9 +202,14 @@ pub data Does (p : ℕ) (s : State) (q : Request) : Type 0 where
 
 ruleset ranks = (effect-if, untouched, settled, gone, stops, blocks, keeps-refl, keeps-move, keeps-off, keeps-serve, keeps-delivered, keeps-emptied, free-out, unready-out, waiting-out, suspended-out, delaying-waits, pending-waits, unlocked, or-right, not-false)
 
+-- many ticks at once are refused here: accepted ones are counted as single ticks
+slept : (p : ℕ) (s : State) (n : ℕ) → isZero (codeOf (doTicks s n .answer)) && true ≡ false → Effect p s (doTicks s n)
+unfolding doTicks
+slept p s n = if-case (λ (r : Step). isZero (codeOf (r .answer)) && true ≡ false → Effect p s r) (badTicks n) (λ e h. untouched p s (Refused BadTicks)) (λ e h. absurd (true≢false h))
+
 pub does : (p : ℕ) (s : State) (q : Request) → isZero (codeOf (step s q .answer)) && moves p s (deedOf q) ≡ false → Does p s q
 unfolding step doYield doCreate doDelete doSuspend doResume doDelay breakOff doCancel endWait block mustWait doSend doSendFromInterrupt doReceive doMake doDrop doPend doAbort posted doPost
-    doPostFromInterrupt doLock doUnlock doOutcome
+    doPostFromInterrupt doLock doUnlock doOutcome doNearest
 does p s Ask.Yield h = let o : eqb (s .lock) 0 && inLine (ready p) (caller s) ≡ false = rw (yield-done s) at h in keeps refl (search ranks depth 12)
 does p s (Ask.Create i r n) h = keeps refl (search ranks depth 12)
 does p s (Ask.Delete i) h = keeps refl (search ranks depth 12)
@@ -223,3 +231,5 @@ does p s Ask.Lock h = keeps refl (search ranks depth 12)
 does p s Ask.Unlock h = keeps refl (search ranks depth 12)
 does p s Ask.Tick h = ticks refl
 does p s (Ask.Outcome i) h = keeps refl (search ranks depth 12)
+does p s (Ask.Ticks n) h = keeps refl (slept p s n h)
+does p s Ask.Nearest h = keeps refl (search ranks depth 12)

@@ -11,7 +11,7 @@ use Rattle.rules.specs.Answers.{codeOf}
 use Rattle.rules.specs.Steps.{step}
 use Rattle.rules.specs.declared.Request.{Request}
 use Rattle.rules.specs.declared.Decoded.the-variants.{Asked}
-use Rattle.fairness.specs.Run.{Event, Deed, tick, yield, other, change, create, deed, accepted, readyAt, sameSet, sumTurns, chargedTo, chargedRank}
+use Rattle.fairness.specs.Run.{Event, Deed, tick, yield, other, change, create, sleep, deed, accepted, readyAt, sameSet, sumTurns, chargedTo, chargedRank}
 
 -- an event by the rules: it is refused and leaves the state as it is, or it is what `step` says
 pub data ByRules (e : Event) : Type 0 where
@@ -30,6 +30,7 @@ moves p s yield = eqb (s .lock) 0 && readyAt p s (s .running)
 moves p s (change i) = readyAt p s i
 moves p s (create i) = false
 moves p s other = false
+moves p s (sleep n) = true
 
 -- the rank's ready set stays the same, and none of its threads moves by itself
 abbrev pub steady : ℕ → Event → Bool

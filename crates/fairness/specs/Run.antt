@@ -28,10 +28,10 @@ endOf s (e ∷ es) = endOf (e .after) es
 
 -- WHAT IS ASKED, as far as the demand tells requests apart
 
--- `change i` is a change of the settings of thread i, and `create i` its creation
+-- `change i` is a change of the settings of thread i, `create i` its creation, and `sleep n` n ticks at once
 pub data Deed : Type 0 where
   tick yield other : Deed
-  change create : ℕ → Deed
+  change create sleep : ℕ → Deed
 
 abbrev pub deedOf : Request → Deed
 deedOf Ask.Yield = yield
@@ -55,6 +55,8 @@ deedOf Ask.Lock = other
 deedOf Ask.Unlock = other
 deedOf Ask.Tick = tick
 deedOf (Ask.Outcome i) = other
+deedOf (Ask.Ticks n) = sleep n
+deedOf Ask.Nearest = other
 
 -- a record that asks nothing is no such deed
 abbrev pub deed : Decoded → Deed
@@ -67,6 +69,16 @@ isTick yield = false
 isTick other = false
 isTick (change i) = false
 isTick (create i) = false
+isTick (sleep n) = false
+
+-- the ticks that are done at once
+abbrev pub atOnce : Deed → ℕ
+atOnce tick = 0
+atOnce yield = 0
+atOnce other = 0
+atOnce (change i) = 0
+atOnce (create i) = 0
+atOnce (sleep n) = n
 
 -- "accepted": a tick, a yield and a change of settings answer 0 unless they are refused
 abbrev pub isZero : ℤ → Bool
@@ -75,6 +87,10 @@ isZero (negsuc n) = false
 
 abbrev pub accepted : Event → Bool
 accepted e = isZero (e .code)
+
+-- the ticks that an accepted operation 21 does; 0 of any other event
+abbrev pub slept : Event → ℕ
+slept e = if accepted e then atOnce (deed (e .asked)) else 0
 
 -- THE RANK
 
@@ -118,6 +134,8 @@ disturbs p s yield = readyAt p s (s .running)
 disturbs p s (change i) = readyAt p s i
 disturbs p s (create i) = false
 disturbs p s other = false
+-- an accepted one is counted as its single ticks (`countedAs`), so that only the run of a wrong door has it: of one that accepts 0 ticks
+disturbs p s (sleep n) = true
 
 -- "none of them yields and none is named in an accepted change of settings"
 abbrev pub undisturbed : ℕ → Event → Bool

@@ -62,6 +62,8 @@ fn step(t: &mut [u8], request: Request) -> Answer
         Request::Unlock => time::unlock(t),
         Request::Tick => time::tick(t),
         Request::Outcome { thread } => time::outcome(t, thread),
+        Request::Ticks { number } => sleep::ticks(t, number),
+        Request::Nearest => sleep::nearest(t),
     }
 }
 

@@ -1,37 +1,20 @@
 -- One thread more: the sums over the first j + 1 threads, and the lines of them. Assumes nothing.
-use mathlib.Core.Bool.{Bool, true, false, _&&_}
+use mathlib.Core.Bool.{Bool, true, false}
 use mathlib.Core.Path.{_≡_, sym, ap, _∙_}
 use mathlib.Core.List.{List, [], _∷_, _++_, append-assoc, append-nil}
 use Prim.Native.Nat.{ℕ, suc, _+_, _*_, _≤_, _<_}
 use native.Mathlib.Omega.{arith}
 use native.Mathlib.Numerals.{add-one}
-use lib.Dec.{eqb}
-use borrow.Author.Tests.{eqb-true, eq-eqb}
 use lib.IntN.{pos, subℕ}
 use lib.ListN.{length, take}
 use lib.Seq.{take-suc, length-take-le}
 use Rattle.rules.specs.Basic.{if_then_else_}
-use Rattle.rules.specs.Board.{mostTicks}
 use Rattle.rules.specs.State.{State, free, at, isReady}
 use Rattle.rules.specs.Lines.{ready, inLine}
-use Rattle.rules.specs.Sound.{Sound}
 use Rattle.rules.specs.declared.Thread.{Thread}
-use Rattle.laws.proofs.Split.{is, isnt, test, pass-together, and-true, and-both}
-use Rattle.laws.proofs.Lines.{in-ready, ready-used}
 use Rattle.fairness.specs.Run.{sumTurns}
 use Rattle.lanes.specs.Lag.{sumOver, lagOf, lag}
 use Rattle.lanes.specs.Report.{laneOf, laneLines}
-
--- who stands in the ready line is ready and of its priority
-pub in-rank : (p : ℕ) (t : Thread) → isReady t && eqb (t .priority) p ≡ inLine (ready p) t
-in-rank p t = pass-together _ _ (
-  λ e. let a = and-true (isReady t) (eqb (t .priority) p) e in in-ready p t .1 (a .0, eqb-true (t .priority) p (a .1)),
-  λ e. let a = in-ready p t .0 e in and-both _ _ (a .0) (eq-eqb (t .priority) p (a .1)),
-)
-
-turns-append : (p : ℕ) (xs ys : List Thread) → sumTurns p (xs ++ ys) ≡ sumTurns p xs + sumTurns p ys
-turns-append p [] ys = omega arith
-turns-append p (x ∷ xs) ys = omega (arith, turns-append p xs ys)
 
 over-append : (p : ℕ) (f : ℕ → ℕ) (i : ℕ) (xs ys : List Thread) → sumOver p f i (xs ++ ys) ≡ sumOver p f i xs + sumOver p f (i + length xs) ys
 unfolding sumOver
@@ -55,9 +38,6 @@ module _ (ts : List Thread) (j : ℕ) (h : j < length ts) where
 
   place : 0 + length (take j ts) ≡ j
   place = omega (arith, length-take-le j ts (omega arith))
-
-  pub turns-turn : (p : ℕ) → sumTurns p (take (j + 1) ts) ≡ sumTurns p (take j ts) + (if inLine (ready p) (at ts j) then at ts j .turn else 0)
-  turns-turn p = ap (sumTurns p) one-more ∙ turns-append p (take j ts) (at ts j ∷ []) ∙ omega arith
 
   pub over-turn : (p : ℕ) (f : ℕ → ℕ) → sumOver p f 0 (take (j + 1) ts) ≡ sumOver p f 0 (take j ts) + (if inLine (ready p) (at ts j) then f j else 0)
   unfolding sumOver
@@ -86,13 +66,6 @@ module _ (f : ℕ → ℕ) (s : State) (i : ℕ) where
       → subℕ (f i * sumTurns (at (s .threads) i .priority) (s .threads)) (at (s .threads) i .turn * sumOver (at (s .threads) i .priority) f 0 (s .threads)) ≡ lag f s i
   unfolding lag lagOf
   lag-ready e = rw e
-
--- a sound thread's turn
-pub turn-most : (s : State) → Sound s → (p j : ℕ) → (if inLine (ready p) (at (s .threads) j) then at (s .threads) j .turn else 0) ≤ mostTicks
-turn-most s σ p j = elim (test (inLine (ready p) (at (s .threads) j))) [
-  | is m ↦ rw m (σ .threads j (ready-used (at (s .threads) j) (in-ready p (at (s .threads) j) .0 m .0)) .turn .1)
-  | isnt m ↦ rw m (omega arith)
-]
 
 -- what is counted of a number is not more
 pub counted-most : (b : Bool) (n : ℕ) → (if b then n else 0) ≤ n

@@ -33,12 +33,7 @@ fn lag(charged: u64, turns: u64, turn: u64, all: u64) -> i64
 fn counted(th: Thread, priority: u8, n: u64) -> u64
     ensures { λ r. ⌜ r ≡ (if inLine (ready priority) th then n else 0) ⌝ }
 {
-    let own = th.priority;
-    if lines::is_ready(th) & (own == priority) {
-        n
-    } else {
-        0
-    }
+    if lines::in_rank(th, priority) { n } else { 0 }
 }
 
 // What the ready threads of a rank have in all: their turns, and the ticks charged to them.

@@ -29,6 +29,7 @@ use Rattle.fairness.specs.Fair.{ByRules, refused, served, RunFrom, steady}
 use Rattle.preservation.proofs.Frame.{on-kept}
 use Rattle.fairness.proofs.Rank.{turns, same-turns}
 use Rattle.fairness.proofs.View.{view, view-in}
+use Rattle.fairness.proofs.Doors.{end-append}
 use Rattle.fairness.proofs.Fair.{same-set, sum-turns, run-append, Ran, ran, event-sound, fairness}
 use Rattle.lanes.specs.Lag.{makes, creates, accountOn, accountFrom, account, sumOver, lagOf, lag, NoLag}
 
@@ -69,6 +70,8 @@ not-made s i Ask.Lock u = refl
 not-made s i Ask.Unlock u = refl
 not-made s i Ask.Tick u = refl
 not-made s i (Ask.Outcome j) u = refl
+not-made s i (Ask.Ticks n) u = refl
+not-made s i Ask.Nearest u = refl
 
 not-created : (p : ℕ) (e : Event) (i : ℕ) → ByRules e → readyAt p (e .before) i ≡ true → creates i e ≡ false
 not-created p e i (refused a k) m = rw a (and-off (makes i (deed (e .asked))))
@@ -132,10 +135,6 @@ lag-none p k f s h i m =
     rw (r .0, r .1, e) (none (at (s .threads) i .turn * sumOver p f 0 (s .threads)))
 
 -- THE RUN
-
-end-append : (s : State) (xs ys : List Event) → endOf s (xs ++ ys) ≡ endOf (endOf s xs) ys
-end-append s [] ys = refl
-end-append s (x ∷ xs) ys = end-append (x .after) xs ys
 
 event-length : (e : Event) → ByRules e → length (e .after .threads) ≡ length (e .before .threads)
 event-length e (refused a k) = rw k

@@ -29,3 +29,6 @@ pub record Examples : Type 0 where
   pub kept : report printer (ran ++ asks 3 1 6 3 ++ tickRecord ++ asks 4 1 0 0 ++ tickRecord) ≡ ascii "0 1 0\n" ++ ascii "1 3 0\n"
   -- "to nobody while the lock is on; a refused one to nobody": a tick under lock, and one with an object that it has no use for
   pub nobody : report printer (ran ++ asks 17 0 0 0 ++ tickRecord ++ asks 18 0 0 0 ++ asks 19 1 0 0) ≡ ascii "0 0 0\n" ++ ascii "1 2 0\n"
+  -- order 7: an accepted operation 21 counts as its single ticks: a round of turns of 2 and 3, two ticks under lock, and none of one that is refused
+  pub slept : report printer (asks 1 1 5 2 ++ asks 1 2 5 3 ++ asks 21 0 0 5 ++ asks 17 0 0 0 ++ asks 21 0 0 2 ++ asks 21 0 0 0)
+      ≡ ascii "0 0 0\n" ++ ascii "1 2 0\n" ++ ascii "2 3 0\n"

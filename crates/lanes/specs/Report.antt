@@ -24,7 +24,7 @@ use Rattle.lanes.specs.Lag.{accountFrom, lag}
 abbrev pub mostRecords : ℕ
 mostRecords = 1000000
 
--- what a thread may be charged by then: a record charges at most 1, and order 7's will charge at most 99,999
+-- what a thread may be charged by then: a record charges at most 99,999, the ticks of an operation 21
 abbrev pub mostCharges : ℕ
 mostCharges = mostTicks * mostRecords
 

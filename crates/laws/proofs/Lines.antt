@@ -12,7 +12,7 @@ use Rattle.rules.specs.Lines.{Line, nowhere, ready, waiters, senders, same, wai
 use Rattle.rules.specs.declared.Thread.{Thread}
 use Rattle.rules.specs.declared.Wait.{Wait}
 use Rattle.rules.specs.declared.Wait.the-variants.{Nothing, Delay, Receive, Send, Semaphore}
-use Rattle.laws.proofs.Split.{is, isnt, test, clash, and-true, if-case}
+use Rattle.laws.proofs.Split.{is, isnt, test, clash, pass-together, and-true, and-both, if-case}
 use Rattle.laws.proofs.Reflect.{reflect}
 
 pub same-eq : (a b : Line) → same a b ≡ true → a ≡ b
@@ -86,6 +86,13 @@ in-ready p t = go (t .used) (t .suspended) (t .wait) (t .priority)
     go true s (Receive n) q = (λ e. absurd (clash e refl), λ h. and-true (not s) false (h .0) .1)
     go true s (Send to n) q = (λ e. absurd (clash e refl), λ h. and-true (not s) false (h .0) .1)
     go true s (Semaphore on n) q = (λ e. absurd (clash e refl), λ h. and-true (not s) false (h .0) .1)
+
+-- who stands in the ready line is ready and of its priority
+pub in-rank : (p : ℕ) (t : Thread) → isReady t && eqb (t .priority) p ≡ inLine (ready p) t
+in-rank p t = pass-together _ _ (
+  λ e. let a = and-true (isReady t) (eqb (t .priority) p) e in in-ready p t .1 (a .0, eqb-true (t .priority) p (a .1)),
+  λ e. let a = in-ready p t .0 e in and-both _ _ (a .0) (eq-eqb (t .priority) p (a .1)),
+)
 
 pub ready-used : (t : Thread) → isReady t ≡ true → t .used ≡ true
 ready-used t r = let x = simp reflect at r in x .0 .0

@@ -7,6 +7,7 @@ use mathlib.Core.List.{List}
 use Prim.Native.Nat.{ℕ, _≤_}
 use native.Mathlib.Omega.{arith}
 use native.Mathlib.Decide.{decLt}
+use borrow.Author.Tests.{eq-eqb}
 use lib.ListN.{length, List·getD-eq-default}
 use Rattle.rules.specs.Basic.{all, allBelow}
 use Rattle.rules.specs.Board.{Board, printer, mostCount, mostLock}
@@ -15,7 +16,9 @@ use Rattle.rules.specs.Lines.{bitsBelow, readyWord}
 use Rattle.rules.specs.Table.{waitOf, outcomeOf, threadRow, threadOf, semRow, semOf, kernelRow, flat, encodeWith, encode, rows, decode}
 use Rattle.rules.specs.Sound.{SoundThread, Sound, SoundTable}
 use Rattle.rules.specs.Test.{placeOk, freeOk, usedOk, threadOk, semOk, initOk, notAbove, kernelOk, sound, soundTable}
-use Rattle.rules.specs.Door.{fresh, freshTable}
+use Rattle.rules.specs.Answers.{areaLength}
+use Rattle.rules.specs.Requests.{decodeRequest}
+use Rattle.rules.specs.Door.{fresh, freshTable, serveDecoded, door}
 use Rattle.rules.specs.declared.Thread.{Thread}
 use Rattle.rules.specs.declared.Sem.{Sem}
 use Rattle.rules.specs.declared.Wait.the-variants.{Nothing}
@@ -128,3 +131,8 @@ tested-table b t = (
 pub fresh-sound : soundTable printer (freshTable printer) ≡ true
 unfolding waitOf outcomeOf threadRow threadOf semRow semOf kernelRow flat encodeWith encode bitsBelow readyWord rows decode placeOk freeOk usedOk threadOk semOk initOk kernelOk sound soundTable fresh freshTable
 fresh-sound = refl
+
+-- a table and an area that the door lets in
+pub let-in : (b : Board) (t r a : List ℕ) → SoundTable b t → length a ≡ areaLength → door b t r a ≡ serveDecoded b t (decodeRequest r)
+unfolding door
+let-in b t r a σ e = rw (eq-eqb (length a) areaLength e, tested-table b t .1 σ)

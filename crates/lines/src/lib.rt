@@ -8,7 +8,7 @@ ghost use mathlib.Core.List.{map};
 ghost use Rattle.rules.specs.Basic.{if_then_else_};
 ghost use Rattle.rules.specs.Board.{printer};
 ghost use Rattle.rules.specs.State.{State, at, isReady, edit, withPlace};
-ghost use Rattle.rules.specs.Lines.{Line, inLine, lineLength, first, moveUp, leave, filled, tailPlace, join, move};
+ghost use Rattle.rules.specs.Lines.{Line, ready, inLine, lineLength, first, moveUp, leave, filled, tailPlace, join, move};
 ghost use Rattle.rules.specs.Table.{decode};
 ghost use Rattle.layout.specs.Held.{Holds, Whole, Becomes, onThreads};
 ghost use Rattle.marks.specs.Numbers.{lineNumber};
@@ -29,6 +29,14 @@ pub fn is_ready(th: Thread) -> bool
         return false;
     }
     !records::is_waiting(w)
+}
+
+// Is the thread ready, at that priority?
+pub fn in_rank(th: Thread, priority: u8) -> bool
+    ensures { λ r. ⌜ r ≡ inLine (ready priority) th ⌝ }
+{
+    let own = th.priority;
+    is_ready(th) & (own == priority)
 }
 
 // HOW MANY STAND IN A LINE

@@ -1,7 +1,7 @@
 -- A step neither adds nor takes away a record, and with lock above 0 after it the running thread is the one before: every operation
 -- is moves and edits, and only settling with lock 0 says anew who runs. Assumes nothing.
 use mathlib.Core.Bool.{Bool, true, false}
-use mathlib.Core.Path.{_≡_, refl, _∙_}
+use mathlib.Core.Path.{_≡_, refl, sym, _∙_}
 use mathlib.Core.List.{List}
 use Prim.Native.Nat.{ℕ, zero, suc}
 use borrow.Author.Tests.{eqb-true}
@@ -16,6 +16,7 @@ use Rattle.rules.specs.Threads.{doYield, doCreate, deleted, doDelete, doSet, do
 use Rattle.rules.specs.Mail.{delivered, doSend, doSendFromInterrupt, emptied, doReceive}
 use Rattle.rules.specs.Semaphores.{doMake, doDrop, doPend, doAbort, posted, doPost, doPostFromInterrupt}
 use Rattle.rules.specs.Time.{charge, charged, countDown, timeouts, doLock, doUnlock, doTick, doOutcome}
+use Rattle.rules.specs.Sleep.{ticks, doTicks, doNearest}
 use Rattle.rules.specs.Steps.{step}
 use Rattle.rules.specs.declared.Thread.{Thread}
 use Rattle.rules.specs.declared.Sem.{Sem}
@@ -103,8 +104,38 @@ firm-settle s s' a f = framed-settle s s' f
 
 ruleset firm = (long-same, long-if, long-move, long-edit, long-serve, long-timeouts, framed-threads, framed-sem, framed-count, framed-lock, firm-if, firm-same, firm-settle)
 
+-- TICKS
+
+framed-trans : (s u w : State) → Framed s u → Framed u w → u .lock ≡ w .lock → Framed s w
+unfolding Long
+framed-trans s u w f g e = record { threads = g .threads ∙ f .threads; sems = g .sems ∙ f .sems; running = λ n. g .running n ∙ f .running (λ z. n (sym e ∙ z)) }
+
+tick-lock : (s : State) → doTick s .state .lock ≡ s .lock
+unfolding doTick settle
+tick-lock s = if-case (λ (u : State). u .lock ≡ s .lock) (eqb (s .lock) 0) (λ e. refl) (λ e. refl)
+
+pub ticks-lock : (n : ℕ) (s : State) → ticks n s .lock ≡ s .lock
+unfolding ticks
+ticks-lock zero s = refl
+ticks-lock (suc n) s = ticks-lock n (doTick s .state) ∙ tick-lock s
+
+firm-tick : (s : State) → Firm s (doTick s)
+unfolding doTick charge charged
+firm-tick s = search firm depth 10
+
+framed-ticks : (n : ℕ) (s : State) → Framed s (ticks n s)
+unfolding ticks Long Firm
+framed-ticks zero s = record { threads = refl; sems = refl; running = λ n. refl }
+framed-ticks (suc n) s = framed-trans s (doTick s .state) (ticks n (doTick s .state)) (firm-tick s) (framed-ticks n (doTick s .state)) (sym (ticks-lock n (doTick s .state)))
+
+firm-ticks : (s : State) (n : ℕ) (a : Answer) → Firm s (record { state = ticks n s; answer = a })
+unfolding Firm
+firm-ticks s n a = framed-ticks n s
+
+-- EVERY STEP
+
 firm-step : (s : State) (q : Request) → Firm s (step s q)
-unfolding step endWait block mustWait doYield doCreate deleted doDelete doSet doSuspend doResume doDelay breakOff doCancel delivered doSend doSendFromInterrupt emptied doReceive doMake doDrop doPend doAbort posted doPost doPostFromInterrupt charge charged doLock doUnlock doTick doOutcome
+unfolding step endWait block mustWait doYield doCreate deleted doDelete doSet doSuspend doResume doDelay breakOff doCancel delivered doSend doSendFromInterrupt emptied doReceive doMake doDrop doPend doAbort posted doPost doPostFromInterrupt charge charged doLock doUnlock doTick doOutcome doTicks doNearest
 firm-step s Ask.Yield = search firm depth 10
 firm-step s (Ask.Create i p n) = search firm depth 10
 firm-step s (Ask.Delete i) = search firm depth 10
@@ -126,6 +157,8 @@ firm-step s Ask.Lock = search firm depth 10
 firm-step s Ask.Unlock = search firm depth 10
 firm-step s Ask.Tick = search firm depth 10
 firm-step s (Ask.Outcome i) = search firm depth 10
+firm-step s (Ask.Ticks n) = search (firm, firm-ticks) depth 10
+firm-step s Ask.Nearest = search firm depth 10
 
 -- a step neither adds nor takes away a record
 pub on-kept : (b : Board) (s : State) (q : Request) → On b s → On b (step s q .state)
@@ -136,3 +169,8 @@ on-kept b s q o = let f = firm-step s q in record { threads = f .threads ∙ o .
 pub running-kept : (s : State) (q : Request) → (step s q .state .lock ≡ 0 → ⊥) → step s q .state .running ≡ s .running
 unfolding Firm
 running-kept s q n = firm-step s q .running n
+
+-- nor do ticks
+pub on-ticks : (b : Board) (s : State) (n : ℕ) → On b s → On b (ticks n s)
+unfolding Long
+on-ticks b s n o = let f = framed-ticks n s in record { threads = f .threads ∙ o .threads; sems = f .sems ∙ o .sems }

@@ -8,5 +8,6 @@ pub mod Threads
 pub mod Mail
 pub mod Semaphores
 pub mod Time
+pub mod Sleep
 pub mod Frame
 pub mod Steps

@@ -11,6 +11,7 @@ use Rattle.preservation.proofs.Threads.{safe-yield, safe-create, safe-d
 use Rattle.preservation.proofs.Mail.{safe-send, safe-send-from-interrupt, safe-receive}
 use Rattle.preservation.proofs.Semaphores.{safe-make, safe-drop, safe-pend, safe-post, safe-post-from-interrupt}
 use Rattle.preservation.proofs.Time.{safe-lock, safe-unlock, safe-tick, safe-outcome}
+use Rattle.preservation.proofs.Sleep.{safe-ticks, safe-nearest}
 
 pub kept : (s : State) (q : Request) → Sound s → Sound (step s q .state)
 unfolding step Safe doCancel doAbort
@@ -35,3 +36,5 @@ kept s Ask.Lock σ = safe-lock s σ
 kept s Ask.Unlock σ = safe-unlock s σ
 kept s Ask.Tick σ = safe-tick s σ
 kept s (Ask.Outcome i) σ = safe-outcome s σ i
+kept s (Ask.Ticks n) σ = safe-ticks s σ n
+kept s Ask.Nearest σ = safe-nearest s σ

@@ -14,17 +14,19 @@ use Rattle.rules.specs.State.{State, caller}
 use Rattle.rules.specs.Lines.{Line, nowhere, waiters, senders, same, waitLine, inLine, lineLength}
 use Rattle.rules.specs.Table.{kindOf, objectOf, threadRow, encodeWith, encode, rows, decode}
 use Rattle.rules.specs.Answers.{codeOf, valueOf}
-use Rattle.rules.specs.Waiting.{Step, refuse, accept, ahead, block, mayNotWait, neverWait, waitCounter, mustWait}
+use Rattle.rules.specs.Waiting.{Step, refuse, ahead, block, mayNotWait, neverWait, waitCounter, mustWait}
 use Rattle.rules.specs.Threads.{doYield, doCreate, doDelete, doSet, doSuspend, doResume, doDelay, breakOff, doCancel}
 use Rattle.rules.specs.Mail.{doSend, doSendFromInterrupt, doReceive}
 use Rattle.rules.specs.Semaphores.{doMake, doDrop, doPend, doAbort, doPost, doPostFromInterrupt}
 use Rattle.rules.specs.Time.{doLock, doUnlock, doTick, outcomeAnswer, doOutcome}
+use Rattle.rules.specs.Sleep.{doTicks, doNearest}
 use Rattle.rules.specs.Steps.{step}
 use Rattle.rules.specs.Sound.{SoundTable}
 use Rattle.rules.specs.declared.Thread.{Thread}
 use Rattle.rules.specs.declared.Wait.{Wait}
 use Rattle.rules.specs.declared.Wait.the-variants.{Nothing, Delay, Receive, Send, Semaphore}
 use Rattle.rules.specs.declared.Outcome as Outcome
+use Rattle.rules.specs.declared.Answer.the-variants.{Done}
 use Rattle.rules.specs.declared.Refusal.{Refusal}
 use Rattle.rules.specs.declared.Refusal.the-variants.{BadOperation}
 use Rattle.rules.specs.declared.Request.{Request}
@@ -76,7 +78,7 @@ pub record Tells (n : ℕ) (x : Step) : Type 0 where
 refuses : (n : ℕ) (s : State) (why : Refusal) → Tells n (refuse s why)
 refuses n s why = record { value = λ e. let x = below-zero why in let c : negsuc (x .0) ≡ pos 1 = rw (x .1) at e in let z : _≡_ {A = ℕ} 0 1 = cc in absurd (omega arith) }
 
-accepts : (n : ℕ) (s : State) (v : ℕ) → Tells n (accept s v)
+accepts : (n : ℕ) (s : State) (v : ℕ) → Tells n (record { state = s; answer = Done v })
 accepts n s v = record { value = λ e. let z : _≡_ {A = ℕ} 0 1 = cc in absurd (omega arith) }
 
 branch : (n : ℕ) (b : Bool) (x y : Step) → Tells n x → Tells n y → Tells n (if b then x else y)
@@ -119,7 +121,7 @@ module _ (b : Board) (t : List ℕ) (σ : SoundTable b t) where
   ahead-receive c = rw running-used (count-nowhere (s .threads))
 
   pub tells : (q : Request) → Tells (told b t (fieldsOf q .0) (fieldsOf q .1)) (step s q)
-  unfolding step doYield doCreate doDelete doSet doSuspend doResume doDelay doCancel breakOff doSend doSendFromInterrupt doReceive doMake doDrop doPend doAbort doPost doPostFromInterrupt doLock doUnlock doTick doOutcome
+  unfolding step doYield doCreate doDelete doSet doSuspend doResume doDelay doCancel breakOff doSend doSendFromInterrupt doReceive doMake doDrop doPend doAbort doPost doPostFromInterrupt doLock doUnlock doTick doOutcome doTicks doNearest
   tells Ask.Yield = search (branch, accepts) depth 8
   tells (Ask.Create i p n) = search (branch, refuses, accepts) depth 8
   tells (Ask.Delete i) = search (branch, refuses, accepts) depth 8
@@ -141,3 +143,5 @@ module _ (b : Board) (t : List ℕ) (σ : SoundTable b t) where
   tells Ask.Unlock = search (branch, refuses, accepts) depth 8
   tells Ask.Tick = search accepts depth 8
   tells (Ask.Outcome i) = search (branch, refuses, outcome) depth 8
+  tells (Ask.Ticks n) = search (branch, refuses, accepts) depth 8
+  tells Ask.Nearest = search accepts depth 8

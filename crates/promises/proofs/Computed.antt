@@ -2,9 +2,9 @@
 use mathlib.Core.Path.{refl}
 use Rattle.rules.proofs.Computing.{behindTheDoor}
 use Rattle.request.specs.Written.{written}
-use Rattle.fairness.specs.Doors.{runOf}
+use Rattle.fairness.specs.Doors.{singleTicks, runOf}
 use Rattle.promises.specs.Figures.{sharesFrom, figures}
-use Rattle.promises.specs.Rounds.{start, brokenInto, table, given, expected, Rounds, RefusedTicks}
+use Rattle.promises.specs.Rounds.{start, brokenInto, asleep, sleptThrough, wokenInside, table, given, expected, Rounds, RefusedTicks}
 use Rattle.promises.specs.Incident.{sendsBack, lanes, again, cutAfterTick, cutAtOnce, counted, OnlyTheOddSeats}
 
 pub record Computed : Type 0 where
@@ -13,7 +13,7 @@ pub record Computed : Type 0 where
   pub seats : OnlyTheOddSeats
 
 pub computed : Computed
-unfolding behindTheDoor written runOf sharesFrom figures start brokenInto table given expected sendsBack lanes again cutAfterTick cutAtOnce counted
+unfolding behindTheDoor written singleTicks runOf sharesFrom figures start brokenInto asleep sleptThrough wokenInside table given expected sendsBack lanes again cutAfterTick cutAtOnce counted
 computed = record {
   rounds = refl;
   refused = refl;

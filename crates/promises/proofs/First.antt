@@ -8,7 +8,7 @@ use Prim.Native.Nat.{ℕ}
 use native.Mathlib.Omega.{arith}
 use lib.Dec.{eqb}
 use lib.IntN.{negsuc}
-use borrow.Author.Tests.{eqb-true, eq-eqb}
+use borrow.Author.Tests.{eqb-true}
 use lib.ListN.{length}
 use Rattle.rules.specs.Board.{Board}
 use Rattle.rules.specs.Table.{encode, decode}
@@ -25,7 +25,7 @@ use Rattle.rules.specs.declared.Answer.the-variants.{Done, Blocked, NoneYet, Fa
 use Rattle.rules.specs.declared.Decoded.{Decoded}
 use Rattle.rules.specs.declared.Decoded.the-variants.{Asked, Bad}
 use Rattle.request.proofs.Back.{decode-written}
-use Rattle.laws.proofs.Tested.{tested-table}
+use Rattle.laws.proofs.Tested.{tested-table, let-in}
 use Rattle.laws.proofs.Split.{is, isnt, test, and-true}
 use Rattle.promises.specs.Refusals.{refusalIn}
 use Rattle.promises.specs.Malformed.{Malformed}
@@ -41,11 +41,6 @@ refusal-is (Blocked v) why e = let z : _≡_ {A = ℕ} 0 1 = cc in absurd (omega
 refusal-is NoneYet why e = let z : _≡_ {A = ℕ} 0 1 = cc in absurd (omega arith)
 refusal-is Failed why e = let z : _≡_ {A = ℕ} 0 1 = cc in absurd (omega arith)
 refusal-is (Refused w) why e = cc
-
--- a table and an area that are let through
-pub served : (b : Board) (t r a : List ℕ) → SoundTable b t → length a ≡ areaLength → door b t r a ≡ serveDecoded b t (decodeRequest r)
-unfolding door
-served b t r a σ e = rw (eq-eqb (length a) areaLength e, tested-table b t .1 σ)
 
 -- what is let through gets no −7, and −8 only where its record is malformed
 let-through : (b : Board) (t : List ℕ) (x : Decoded) → serveDecoded b t x .code ≡ negsuc 6 → ⊥
@@ -68,25 +63,25 @@ module _ (b : Board) (t r a : List ℕ) where
 
   malformed : SoundTable b t → length a ≡ areaLength → Malformed r → door b t r a ≡ refusedWith t BadRecord
   unfolding serveDecoded areaOf
-  malformed σ e m = served b t r a σ e ∙ rw (decodes .bad r .1 m)
+  malformed σ e m = let-in b t r a σ e ∙ rw (decodes .bad r .1 m)
 
 pub first : Demand1
 unfolding serveDecoded areaOf
 first b t r a = record {
-  minus7 = (λ e h. let-through b t (decodeRequest r) (ap (λ d. d .code) (sym (served b t r a (h .0) (h .1))) ∙ e), λ h. ap (λ d. d .code) (unsound b t r a h));
+  minus7 = (λ e h. let-through b t (decodeRequest r) (ap (λ d. d .code) (sym (let-in b t r a (h .0) (h .1))) ∙ e), λ h. ap (λ d. d .code) (unsound b t r a h));
   unsound = unsound b t r a;
   minus8 = λ σ l.
-      (λ e. decodes .bad r .0 (only-bad b t (decodeRequest r) (ap (λ d. d .code) (sym (served b t r a σ l)) ∙ e)), λ m. ap (λ d. d .code) (malformed b t r a σ l m));
+      (λ e. decodes .bad r .0 (only-bad b t (decodeRequest r) (ap (λ d. d .code) (sym (let-in b t r a σ l)) ∙ e)), λ m. ap (λ d. d .code) (malformed b t r a σ l m));
   malformed = malformed b t r a;
   refused = λ σ e q w why h.
       let k : decodeRequest r ≡ Asked q = ap decodeRequest (sym w) ∙ decode-written q in
       let x = says (decode b t) q in
       let n : step (decode b t) q .answer ≡ Refused why = refusal-is (step (decode b t) q .answer) why (x .answer ∙ h) in
       let m : encode (step (decode b t) q .state) ≡ t = ap encode (x .state why h) ∙ sym (σ .meaning) in
-      served b t r a σ e ∙ rw (k, n, m);
+      let-in b t r a σ e ∙ rw (k, n, m);
   accepted = λ σ e q w h.
       let k : decodeRequest r ≡ Asked q = ap decodeRequest (sym w) ∙ decode-written q in
-      let d : door b t r a ≡ answered (encode (step (decode b t) q .state)) (step (decode b t) q .answer) = served b t r a σ e ∙ rw k in
+      let d : door b t r a ≡ answered (encode (step (decode b t) q .state)) (step (decode b t) q .answer) = let-in b t r a σ e ∙ rw k in
       record {
         answer = step (decode b t) q .answer;
         none = says (decode b t) q .answer ∙ h;

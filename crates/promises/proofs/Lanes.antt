@@ -12,7 +12,7 @@ use Rattle.rules.specs.Trace.{records}
 use Rattle.laws.proofs.Tested.{tested-table, fresh-sound}
 use Rattle.request.specs.Written.{written}
 use Rattle.text.specs.Text.{digits, decimal}
-use Rattle.fairness.specs.Doors.{runOf}
+use Rattle.fairness.specs.Doors.{singleTicks, runOf}
 use Rattle.fairness.proofs.Doors.{run-by-rules}
 use Rattle.lanes.specs.Lag.{accountFrom, sumOver, lagOf, lag}
 use Rattle.lanes.specs.Report.{laneLines, reportOn}
@@ -34,7 +34,7 @@ no-lags = record { from = none; fresh = λ hs. none printer (freshTable printer)
 -- BY COMPUTATION
 
 pub lags-reckoned : LagsReckoned
-unfolding behindTheDoor written runOf accountFrom sumOver lagOf lag lanesFrom reckoned
+unfolding behindTheDoor written singleTicks runOf accountFrom sumOver lagOf lag lanesFrom reckoned
 lags-reckoned = record {
   oneRound = refl;
   threeRounds = refl;
@@ -47,5 +47,5 @@ lags-reckoned = record {
 }
 
 pub odd-seats-reported : OddSeatsReported
-unfolding behindTheDoor written records runOf accountFrom sumOver lagOf lag laneLines reportOn digits decimal sendsBack again cutAfterTick cutAtOnce reported flatten
+unfolding behindTheDoor written records singleTicks runOf accountFrom sumOver lagOf lag laneLines reportOn digits decimal sendsBack again cutAfterTick cutAtOnce reported flatten
 odd-seats-reported = record { behind = refl; nothing = refl; ruled = refl; ruledAtOnce = refl }

@@ -7,6 +7,7 @@ pub mod First
 pub mod Second
 pub mod Word
 pub mod Third
+pub mod Slept
 pub mod Figures
 pub mod Computed
 pub mod Incident

@@ -108,7 +108,7 @@ module _ (r : List ℕ) where
   abbrev Zeroed : ℕ → Type 0
   Zeroed n = (k : ℕ) → 1 ≤ k → k ≤ n → used (getD r 0 0) k ≡ false → getD r k 0 ≡ 0
 
-  parts : length r ≡ 12 → getD r 0 0 ≤ 20 → getD r 3 0 ≡ 0 → Zeroed 11 → Parts r
+  parts : length r ≡ 12 → getD r 0 0 ≤ 22 → getD r 3 0 ≡ 0 → Zeroed 11 → Parts r
   parts long low z none-set = record { long = long; zeroed = z; fields = of (getElem? operations (getD r 0 0)) refl }
     where
       of : (m : Option Operation) → getElem? operations (getD r 0 0) ≡ m → Kept (getD r 0 0) (getD r 1 0) (getD r 2 0) (wordAt r 4) (wordAt r 8)
@@ -148,12 +148,12 @@ module _ (r : List ℕ) where
   ill : decodeRequest r ≡ Bad → Malformed r
   ill bad = elim (test (eqb (length r) 12)) [
     | isnt e ↦ notTwelve (eqb-false (length r) 12 e)
-    | is long ↦ elim (test (ltb 20 (getD r 0 0))) [
-      | is e ↦ unknown (ltb-true 20 (getD r 0 0) e)
+    | is long ↦ elim (test (ltb 22 (getD r 0 0))) [
+      | is e ↦ unknown (ltb-true 22 (getD r 0 0) e)
       | isnt low ↦ elim (test (eqb (getD r 3 0) 0)) [
         | isnt e ↦ third (eqb-false (getD r 3 0) 0 e)
         | is z ↦ look 11 (λ rest.
-            let x = parts (eqb-true (length r) 12 long) (ltb-false 20 (getD r 0 0) low) (eqb-true (getD r 3 0) 0 z) rest in
+            let x = parts (eqb-true (length r) 12 long) (ltb-false 22 (getD r 0 0) low) (eqb-true (getD r 3 0) 0 z) rest in
             let c : _≡_ {A = ℕ} 0 1 = cc (bad, parts-asked r x) in
             absurd (omega arith))
       ]

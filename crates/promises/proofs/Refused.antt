@@ -17,6 +17,7 @@ use Rattle.rules.specs.Threads.{bound, doYield, doCreate, doDelete, doSet, doSu
 use Rattle.rules.specs.Mail.{doSend, doSendFromInterrupt, doReceive}
 use Rattle.rules.specs.Semaphores.{noSem, servedBy, tooMany, posted, doMake, doDrop, doPend, doAbort, doPost, doPostFromInterrupt}
 use Rattle.rules.specs.Time.{doLock, doUnlock, doTick, outcomeAnswer, doOutcome}
+use Rattle.rules.specs.Sleep.{doTicks, doNearest}
 use Rattle.rules.specs.Steps.{step}
 use Rattle.rules.specs.declared.Thread.{Thread}
 use Rattle.rules.specs.declared.Wait.{Wait}
@@ -160,7 +161,7 @@ posts s k n = elim (test (noSem s k)) [
     last false false = accepts s _ refl
 
 pub says : (s : State) (q : Request) → Says s (refusal s q) (step s q)
-unfolding refusal firstGiven step doYield doCreate doDelete doSet doSuspend doResume doDelay doCancel breakOff doSend doSendFromInterrupt doReceive doMake doDrop doPend doAbort doPost doPostFromInterrupt doLock doUnlock doTick doOutcome block
+unfolding refusal firstGiven step doYield doCreate doDelete doSet doSuspend doResume doDelay doCancel breakOff doSend doSendFromInterrupt doReceive doMake doDrop doPend doAbort doPost doPostFromInterrupt doLock doUnlock doTick doOutcome doTicks doNearest block
 says s Ask.Yield = if-case (Says s none) (ltb 0 (s .lock)) (λ e. accepts s _ refl) (λ e. accepts s _ refl)
 says s (Ask.Create i p n) = search (rung, accepts) depth 8
 says s (Ask.Delete i) = search (rung, accepts, thread-free, bound-is) depth 8
@@ -182,3 +183,5 @@ says s Ask.Lock = search (rung, accepts) depth 8
 says s Ask.Unlock = search (rung, accepts) depth 8
 says s Ask.Tick = accepts s _ refl
 says s (Ask.Outcome i) = search (rung, accepts, thread-free, outcome-none) depth 8
+says s (Ask.Ticks n) = search (rung, accepts) depth 8
+says s Ask.Nearest = accepts s _ refl

@@ -24,12 +24,12 @@ use Rattle.request.specs.Written.{written}
 use Rattle.request.proofs.Back.{decode-written}
 use Rattle.laws.proofs.Split.{clash}
 use Rattle.fairness.specs.Run.{Event, deed, isTick, isZero, readyAt, sumTurns, charges, chargedTo, chargedRank}
-use Rattle.fairness.specs.Doors.{Door, runOf}
+use Rattle.fairness.specs.Doors.{Door, singleTicks, runOf}
 use Rattle.promises.specs.Figures.{asks, sharesFrom, figures, premises, ownTurns}
 use Rattle.promises.specs.Rounds.{start}
 use Rattle.promises.specs.Rejected.{RuledDoor, refuses, handsBack, answersZero, rotatesOnce, inventsValue, five, Counted, Rejected, Refusing}
 use Rattle.promises.proofs.Exactly.{below-zero}
-use Rattle.promises.proofs.First.{served}
+use Rattle.laws.proofs.Tested.{let-in}
 use Rattle.promises.proofs.Second.{second}
 use Rattle.promises.proofs.Figures.{own-turns}
 
@@ -49,7 +49,7 @@ unfolding gives after serveDecoded
 ruled-gives d h rs q =
     let σ = second .fresh (asks rs) in
     h (after rs) (written q) cleanArea σ .byRule refl q (decode-written q)
-    ∙ sym (served printer (after rs) (written q) cleanArea σ refl ∙ rw (decode-written q))
+    ∙ sym (let-in printer (after rs) (written q) cleanArea σ refl ∙ rw (decode-written q))
 
 -- so what tells the two answers apart shuts the door out
 told : (tells : Doored → Bool) (d : Door) (rs : List Request) (q : Request) → tells (gives (door printer) rs q) ≡ true → tells (gives d rs q) ≡ false
@@ -94,7 +94,7 @@ Refused (e ∷ es) = (isZero (e .code) ≡ false) × Refused es
 refused-run : (b : Board) (why : Refusal) (t : List ℕ) (hs : List Handed) → Refused (runOf b (refuses why) t hs)
 unfolding Refused runOf
 refused-run b why t [] = tt
-refused-run b why t (h ∷ hs) = (not-zero why, refused-run b why t hs)
+refused-run b why t (h ∷ hs) = rw (not-zero why) (not-zero why, refused-run b why t hs)
 
 refused-drop : (n : ℕ) (es : List Event) → Refused es → Refused (drop n es)
 unfolding Refused
@@ -142,7 +142,7 @@ record Computed : Type 0 where
   counted : Counted
 
 computed : Computed
-unfolding behindTheDoor written runOf sharesFrom figures start handsBack answersZero rotatesOnce inventsValue after gives pair round
+unfolding behindTheDoor written singleTicks runOf sharesFrom figures start handsBack answersZero rotatesOnce inventsValue after gives pair round
 computed = record {
   told = record { tick = refl; back = (refl, refl); once = refl; zero = (refl, refl); value = (refl, refl) };
   counted = record { back = refl; once = refl };

@@ -1,7 +1,7 @@
 -- Demand 2 holds: a call leaves a sound table as it is or makes of it the table of the request's step, a step keeps a state sound, and
 -- a state and its table determine each other. Assumes nothing.
 use mathlib.Core.Bool.{_&&_}
-use mathlib.Core.Path.{_≡_, refl, ap, sym, _∙_}
+use mathlib.Core.Path.{_≡_, refl, ap, _∙_}
 use mathlib.Core.List.{List, [], _∷_, _++_}
 use Prim.Native.Nat.{ℕ}
 use native.Mathlib.Omega.{arith}
@@ -10,7 +10,6 @@ use lib.IntN.{pos, negsuc}
 use lib.ListN.{length, getD}
 use Rattle.rules.specs.Board.{Board, printer}
 use Rattle.rules.specs.State.{State, On}
-use Rattle.rules.specs.Lines.{readyWord}
 use Rattle.rules.specs.Table.{wordBytes, encode, decode}
 use Rattle.rules.specs.Answers.{areaLength, areaOf}
 use Rattle.rules.specs.Requests.{decodeRequest}
@@ -22,21 +21,15 @@ use Rattle.rules.specs.declared.Request.{Request}
 use Rattle.rules.specs.declared.Decoded.{Decoded}
 use Rattle.rules.specs.declared.Decoded.the-variants.{Asked, Bad}
 use Rattle.laws.proofs.Split.{is, isnt, test}
-use Rattle.laws.proofs.Tested.{tested-table, fresh-sound}
-use Rattle.layout.proofs.Records.{length-encode}
+use Rattle.laws.proofs.Tested.{tested-table, fresh-sound, let-in}
 use Rattle.layout.proofs.RoundTrip.{on-decode, decode-encode}
+use Rattle.layout.proofs.Sound.{encode-sound}
 use Rattle.preservation.proofs.Frame.{on-kept, running-kept}
 use Rattle.preservation.proofs.Steps.{kept}
 use Rattle.request.proofs.Trips.{fields-read}
 use Rattle.promises.specs.Ahead.{told}
 use Rattle.promises.specs.Demand2.{RunsFirst, Ruled, Demand2}
 use Rattle.promises.proofs.Ahead.{tells}
-use Rattle.promises.proofs.First.{served}
-
--- the table of a sound state is sound
-pub encode-sound : (b : Board) (s : State) → On b s → Sound s → SoundTable b (encode s)
-unfolding encode
-encode-sound b s on σ = record { long = length-encode on (readyWord (s .threads)); meaning = ap encode (sym (decode-encode on)); state = rw (decode-encode on) σ }
 
 -- what a call makes of a sound table
 pub data Next (b : Board) (t after : List ℕ) : Type 0 where
@@ -93,7 +86,7 @@ ruled b t r a σ =
     let n = next b t σ r a in
     let u = after-sound b t σ n in
     record {
-      byRule = λ e q k. served b t r a σ e ∙ rw k;
+      byRule = λ e q k. let-in b t r a σ e ∙ rw k;
       ahead = door-tells b t σ r a;
       sound = u;
       unlocked = runs-first (decode b (door b t r a .table)) (u .state);

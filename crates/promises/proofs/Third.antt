@@ -13,7 +13,7 @@ use Rattle.rules.specs.State.{State}
 use Rattle.rules.specs.Table.{decode}
 use Rattle.rules.specs.Door.{door}
 use Rattle.laws.proofs.Split.{and-true, and-both, and-off}
-use Rattle.fairness.specs.Run.{Event, Deed, tick, yield, other, change, create, deed, accepted, readyAt, sameSet, disturbs, undisturbed}
+use Rattle.fairness.specs.Run.{Event, Deed, tick, yield, other, change, create, sleep, deed, accepted, readyAt, sameSet, disturbs, undisturbed}
 use Rattle.fairness.specs.Doors.{Door, runOf}
 use Rattle.fairness.specs.Fair.{moves, steady}
 use Rattle.fairness.proofs.Fair.{fairness}
@@ -30,6 +30,7 @@ moves-not true p s yield e = rw (not-true (readyAt p s (s .running)) e, and-off)
 moves-not true p s (change i) e = e
 moves-not true p s (create i) e = refl
 moves-not true p s other e = refl
+moves-not true p s (sleep n) e = e
 
 pub all-steady : (p : ℕ) (es : List Event) → all (sameSet p) es ≡ true → all (undisturbed p) es ≡ true → all (steady p) es ≡ true
 all-steady p [] h k = refl

@@ -38,7 +38,8 @@ pub record Answered (b : Board) (t r a : List ℕ) (d : Doored) : Type 0 where
   pub minus7 : (d .code ≡ negsuc 6) ↔ (SoundTable b t × (length a ≡ areaLength) → ⊥)
   -- then "nothing is written and only the returned number says so."
   pub unsound : (SoundTable b t × (length a ≡ areaLength) → ⊥) → d ≡ record { code = negsuc 6; table = t; area = a }
-  -- "−8: record not 12 bytes, operation above 20, byte 3 or an unused field not zero", "given exactly when" it is so, for "−7 is tested first"
+  -- "−8: record not 12 bytes, operation above 20, byte 3 or an unused field not zero", order 7: "−8 now starts above 22", "given exactly when"
+  -- it is so, for "−7 is tested first"
   pub minus8 : SoundTable b t → length a ≡ areaLength → (d .code ≡ negsuc 7) ↔ Malformed r
   pub malformed : SoundTable b t → length a ≡ areaLength → Malformed r → d ≡ refusedWith t BadRecord
   -- Any other record is what a request is written as (`Malformed.Decodes`). Any other refusal is the first in document 01's list whose

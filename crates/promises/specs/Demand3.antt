@@ -3,6 +3,8 @@
 -- break in, the scheduler may be locked): in every unbroken part of the run where the ticks charged to that rank equal the sum of the
 -- threads' turns, each thread was charged exactly its own turn. An accepted tick is charged to the thread that was running, to nobody
 -- while the lock is on; a refused one to nobody."
+-- Order 7: "Demand 3 counts an accepted operation 21 as its single ticks: its premise is read after each, and a part may begin or end between
+-- them."
 -- The crate `fairness` says what the set, a turn and a charged tick are, of any run (specs/Run.antt), and which runs are meant
 -- (specs/Doors.antt).
 use mathlib.Core.Bool.{true}

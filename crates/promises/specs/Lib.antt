@@ -7,6 +7,7 @@ pub mod Word
 pub mod Demand1
 pub mod Demand2
 pub mod Demand3
+pub mod Slept
 pub mod Figures
 pub mod Rounds
 pub mod Lanes

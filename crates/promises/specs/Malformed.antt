@@ -1,5 +1,5 @@
 -- Document 01's condition for −8, written down apart from the decoder, byte by byte, so that it can disagree with it.
--- "−8: record not 12 bytes, operation above 20, byte 3 or an unused field not zero"
+-- "−8: record not 12 bytes, operation above 20, byte 3 or an unused field not zero"; order 7: "−8 now starts above 22"
 use mathlib.Core.Bool.{Bool, false, _||_}
 use mathlib.Core.Path.{_≡_}
 use mathlib.Core.List.{List, [], _∷_, _++_}
@@ -69,6 +69,9 @@ uses =
     ∷ []
     -- 20 Outcome: "object"
     ∷ object
+    -- order 7: "Operation 21 takes a number", and 22 nothing
+    ∷ number
+    ∷ []
     ∷ []
 
 abbrev pub has : List ℕ → ℕ → Bool
@@ -82,8 +85,8 @@ used operation k = has (getD uses operation []) k
 pub data Malformed (r : List ℕ) : Type 0 where
   -- "record not 12 bytes"
   notTwelve : (length r ≡ 12 → ⊥) → Malformed r
-  -- "operation above 20"
-  unknown : 20 < getD r 0 0 → Malformed r
+  -- "operation above 20"; order 7: "−8 now starts above 22"
+  unknown : 22 < getD r 0 0 → Malformed r
   -- "byte 3 [..] not zero"
   third : (getD r 3 0 ≡ 0 → ⊥) → Malformed r
   -- "an unused field not zero": a byte behind the operation, in no field that the operation uses

@@ -42,10 +42,13 @@ order Ask.Lock = BadOperation ∷ []
 order Ask.Unlock = BadOperation ∷ []
 order Ask.Tick = []
 order (Ask.Outcome i) = BadThread ∷ []
+-- order 7: "−3 for 21 with 0 or above 99,999", and nothing for 22
+order (Ask.Ticks n) = BadTicks ∷ []
+order Ask.Nearest = []
 
 -- THE SECOND TABLE: "Given exactly when"
 
--- what a request names, its priority, and its turn or delay; 0 and 1 where it has none
+-- what a request names, its priority, and its turn, delay or number of ticks; 0 and 1 where it has none
 pub data Named : Type 0 where
   nothing : Named
   thread newThread semaphore newSemaphore : ℕ → Named
@@ -80,6 +83,8 @@ namesOf Ask.Lock = names nothing 0 1
 namesOf Ask.Unlock = names nothing 0 1
 namesOf Ask.Tick = names nothing 0 1
 namesOf (Ask.Outcome i) = names (thread i) 0 1
+namesOf (Ask.Ticks n) = names nothing 0 n
+namesOf Ask.Nearest = names nothing 0 1
 
 -- "−1: thread number above 15, or free (Create: in use)": 15 is the last thread of the board
 abbrev pub minus1 : State → Named → Bool
@@ -120,6 +125,8 @@ minus4 s Ask.Lock = false
 minus4 s Ask.Unlock = false
 minus4 s Ask.Tick = false
 minus4 s (Ask.Outcome i) = false
+minus4 s (Ask.Ticks n) = false
+minus4 s Ask.Nearest = false
 
 abbrev pub locked : State → Bool
 locked s = not (eqb (s .lock) 0)
@@ -182,12 +189,14 @@ minus5 s Ask.Lock = leb 255 (s .lock)
 minus5 s Ask.Unlock = eqb (s .lock) 0
 minus5 s Ask.Tick = false
 minus5 s (Ask.Outcome i) = false
+minus5 s (Ask.Ticks n) = false
+minus5 s Ask.Nearest = false
 
 abbrev pub given : State → Request → Refusal → Bool
 given s q BadThread = minus1 s (namesOf q .object)
 -- "−2: priority above 31"
 given s q BadPriority = ltb 31 (namesOf q .priority)
--- "−3: turn or delay 0 or above 99,999"
+-- "−3: turn or delay 0 or above 99,999"; order 7: "−3 for 21 with 0 or above 99,999"
 given s q BadTicks = eqb (namesOf q .ticks) 0 || ltb 99999 (namesOf q .ticks)
 given s q BadState = minus4 s q
 given s q BadOperation = minus5 s q

@@ -32,7 +32,7 @@ use Rattle.lanes.proofs.Lines.{lines-as}
 use Rattle.lanes.specs.Kept.{of, Within}
 use Rattle.accounts.specs.Accounts.{accountsFrom, handed, eventsOf, servable}
 use Rattle.accounts.proofs.Accounts.{account-at, accounts-none, accounts-append, still-within}
-use Rattle.accounts.proofs.Served.{handed-add, length-events}
+use Rattle.accounts.proofs.Served.{handed-add, most-events}
 use Rattle.report.specs.Going.{Stands, Ended}
 
 -- BYTES THAT COME
@@ -155,8 +155,8 @@ module _ {first bytes number : ℕ} {t ns t′ ns′ held : List ℕ} (p : Stand
 
   pub within-there : Within (mostRecords - first) ns → Within (mostRecords - number) ns′
   within-there w i =
-      let events = length-events t (servable first (length (p .seen))) (p .seen) in
-      omega (arith, still-within (mostRecords - first) ns run (omega (arith, events)) w i, ap (λ l. of l i) (p .accounts), events, p .count)
+      let k = servable first (length (p .seen)) in
+      omega (arith, still-within k (mostRecords - first) ns run (omega arith) (most-events t k (p .seen)) w i, ap (λ l. of l i) (p .accounts), p .count)
 
   -- THE REPORT of the table and of the accounts is that of all that came
   module _ (low : first ≤ mostRecords) (long : length ns ≡ printer .threads) where

@@ -1,5 +1,5 @@
 -- A request that is written is read back, whatever its fields are: four bytes of a word say the word, and the table's line for its
--- number keeps its fields. So the 21 operations and their fields are told apart. Assumes nothing.
+-- number keeps its fields. So the 23 operations and their fields are told apart. Assumes nothing.
 use mathlib.Core.Path.{_≡_, refl}
 use Rattle.rules.specs.Requests.{requestOf, decodeRequest}
 use Rattle.rules.specs.declared.Decoded.the-variants.{Asked}
@@ -31,6 +31,8 @@ fields-asked Ask.Lock = refl
 fields-asked Ask.Unlock = refl
 fields-asked Ask.Tick = refl
 fields-asked (Ask.Outcome i) = refl
+fields-asked (Ask.Ticks n) = refl
+fields-asked Ask.Nearest = refl
 
 pub decode-written : (r : Request) → decodeRequest (written r) ≡ Asked r
 unfolding decodeRequest written

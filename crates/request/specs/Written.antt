@@ -28,6 +28,8 @@ fieldsOf Ask.Lock = (17, 0, 0, 0, 0)
 fieldsOf Ask.Unlock = (18, 0, 0, 0, 0)
 fieldsOf Ask.Tick = (19, 0, 0, 0, 0)
 fieldsOf (Ask.Outcome thread) = (20, thread, 0, 0, 0)
+fieldsOf (Ask.Ticks number) = (21, 0, 0, number, 0)
+fieldsOf Ask.Nearest = (22, 0, 0, 0, 0)
 
 -- "Byte 0 operation; 1 object; 2 priority; 3 zero; 4-7 number; 8-11 data."
 abbrev pub recordBytes : ℕ → ℕ → ℕ → ℕ → ℕ → List ℕ

@@ -72,6 +72,8 @@ pub fn request_of(operation: u8, object: u8, priority: u8, number: u32, parcel: 
         18 => asked_if(o & p & n & d, Request::Unlock),
         19 => asked_if(o & p & n & d, Request::Tick),
         20 => asked_if(p & n & d, Request::Outcome { thread }),
+        21 => asked_if(o & p & d, Request::Ticks { number }),
+        22 => asked_if(o & p & n & d, Request::Nearest),
         _ => Decoded::Bad,
     }
 }

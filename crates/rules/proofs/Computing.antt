@@ -10,9 +10,10 @@ use Rattle.rules.specs.Threads.{doYield, doCreate, deleted, doDelete, do
 use Rattle.rules.specs.Mail.{delivered, doSend, doSendFromInterrupt, emptied, doReceive}
 use Rattle.rules.specs.Semaphores.{doMake, doDrop, doPend, doAbort, posted, doPost, doPostFromInterrupt}
 use Rattle.rules.specs.Time.{doLock, doUnlock, charge, charged, countDown, timeouts, doTick, doOutcome}
+use Rattle.rules.specs.Sleep.{ticks, doTicks, nearest, doNearest}
 use Rattle.rules.specs.Steps.{step}
 use Rattle.rules.specs.Door.{serveDecoded, door, fresh, freshTable, tableAfter}
 
 unfoldable pub behindTheDoor : Unit {0}
-unfolding leave join move topBelow top settle bitsBelow readyWord waitOf outcomeOf threadRow threadOf semRow semOf kernelRow flat encodeWith encode rows decode placeOk freeOk usedOk threadOk semOk initOk kernelOk sound soundTable areaOf requestOf decodeRequest endWait serve block mustWait doYield doCreate deleted doDelete doSet doSuspend doResume doDelay breakOff doCancel delivered doSend doSendFromInterrupt emptied doReceive doMake doDrop doPend doAbort posted doPost doPostFromInterrupt doLock doUnlock charge charged countDown timeouts doTick doOutcome step serveDecoded door fresh freshTable tableAfter
+unfolding leave join move topBelow top settle bitsBelow readyWord waitOf outcomeOf threadRow threadOf semRow semOf kernelRow flat encodeWith encode rows decode placeOk freeOk usedOk threadOk semOk initOk kernelOk sound soundTable areaOf requestOf decodeRequest endWait serve block mustWait doYield doCreate deleted doDelete doSet doSuspend doResume doDelay breakOff doCancel delivered doSend doSendFromInterrupt emptied doReceive doMake doDrop doPend doAbort posted doPost doPostFromInterrupt doLock doUnlock charge charged countDown timeouts doTick doOutcome ticks doTicks nearest doNearest step serveDecoded door fresh freshTable tableAfter
 behindTheDoor = tt

@@ -63,6 +63,12 @@ tick = ask 19 0 0 0 0
 abbrev outcome : ℕ → List ℕ
 outcome i = ask 20 i 0 0 0
 
+abbrev ticks : ℕ → List ℕ
+ticks n = ask 21 0 0 n 0
+
+abbrev nearest : List ℕ
+nearest = ask 22 0 0 0 0
+
 -- ANSWERS, each with the thread that runs after it
 
 pub record Seen : Type 0 where
@@ -228,6 +234,28 @@ table =
     ∷ caseHolding (create 1 7 5 ∷ suspend 1 ∷ set 1 8 5 ∷ []) (done 1 ∷ done 0 ∷ done 0 ∷ []) (heldWord 1 ∷ [])
     -- a wait that ends by time brings the bit back
     ∷ caseHolding (create 1 7 5 ∷ delay 1 ∷ tick ∷ []) (done 1 ∷ blocked 0 ∷ done 1 ∷ []) (heldWord (1 + 2 ^ 7) ∷ [])
+    -- order 7: "takes a number from 1 to 99,999 and does that many ticks", "−8 now starts above 22": 22 with a number, and 23, ask nothing
+    ∷ case (ticks 0 ∷ ticks 100000 ∷ ask 22 0 0 1 0 ∷ ask 23 0 0 0 0 ∷ []) (minus 3 0 ∷ minus 3 0 ∷ minus 8 0 ∷ minus 8 0 ∷ [])
+    -- "the least number of ticks after which, if only ticks come, some timed wait ends": a delay of 3 has 1 left after 2 ticks
+    ∷ case
+    (create 1 5 2 ∷ delay 3 ∷ ticks 2 ∷ nearest ∷ ticks 1 ∷ outcome 1 ∷ nearest ∷ [])
+    (done 1 ∷ blocked 0 ∷ done 0 ∷ gives 1 0 ∷ done 1 ∷ done 1 ∷ done 1 ∷ [])
+    -- "and 0 if there is none": nobody waits, or one forever; a suspended one's wait ends too
+    ∷ case
+    (nearest ∷ make 0 0 ∷ create 1 5 5 ∷ pend 0 100000 ∷ nearest ∷ create 2 5 5 ∷ delay 7 ∷ suspend 2 ∷ nearest ∷ create 3 5 5 ∷ pend 0 4 ∷ nearest ∷ [])
+    (done 0 ∷ done 0 ∷ done 1 ∷ blocked 0 ∷ done 0 ∷ done 2 ∷ blocked 0 ∷ done 0 ∷ gives 7 0 ∷ done 3 ∷ behind 1 0 ∷ gives 4 0 ∷ [])
+    -- "table and answer equal those of that many single ones": 5 ticks are a round of turns of 2 and 3
+    ∷ caseHolding
+    (create 1 5 2 ∷ create 2 5 3 ∷ ticks 1 ∷ ticks 5 ∷ ticks 1 ∷ [])
+    (done 1 ∷ done 1 ∷ done 1 ∷ done 1 ∷ done 2 ∷ [])
+    (held 1 12 (wordBytes 2) ∷ held 2 12 (wordBytes 3) ∷ [])
+    -- a wait ends inside: Init is charged the ticks before, and the thread that outranks it those behind
+    ∷ caseHolding (create 1 5 5 ∷ delay 2 ∷ ticks 4 ∷ []) (done 1 ∷ blocked 0 ∷ done 1 ∷ []) (held 0 12 (wordBytes 8) ∷ held 1 12 (wordBytes 3) ∷ [])
+    -- under lock the waits count down, and nobody is charged
+    ∷ caseHolding
+    (create 1 5 2 ∷ delay 3 ∷ lockOn ∷ ticks 3 ∷ outcome 1 ∷ unlock ∷ [])
+    (done 1 ∷ blocked 0 ∷ done 0 ∷ done 0 ∷ done 0 ∷ done 1 ∷ [])
+    (held 0 12 (wordBytes 10) ∷ held 1 12 (wordBytes 2) ∷ [])
     ∷ []
 
 -- WHAT IS GIVEN, WHAT IS EXPECTED

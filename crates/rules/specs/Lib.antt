@@ -13,6 +13,7 @@ pub mod Threads
 pub mod Mail
 pub mod Semaphores
 pub mod Time
+pub mod Sleep
 pub mod Steps
 pub mod Door
 pub mod Trace

@@ -32,7 +32,8 @@ abbrev ✗ : Bool
 abbrev uses : Bool → Bool → Bool → Bool → (ℕ → ℕ → ℕ → ℕ → Request) → Operation
 uses o p n d r = record { object = o; priority = p; number = n; parcel = d; asks = r }
 
--- document 01's column "Uses", in the order of the operations' numbers: object, priority, number, data
+-- document 01's column "Uses", in the order of the operations' numbers: object, priority, number, data; the last two are order 7's, of which
+-- 21 "takes a number"
 abbrev pub operations : List Operation
 operations =
     uses ✗ ✗ ✗ ✗ (λ o p n d. Ask.Yield)
@@ -56,6 +57,8 @@ operations =
     ∷ uses ✗ ✗ ✗ ✗ (λ o p n d. Ask.Unlock)
     ∷ uses ✗ ✗ ✗ ✗ (λ o p n d. Ask.Tick)
     ∷ uses ✓ ✗ ✗ ✗ (λ o p n d. Ask.Outcome o)
+    ∷ uses ✗ ✗ ✓ ✗ (λ o p n d. Ask.Ticks n)
+    ∷ uses ✗ ✗ ✗ ✗ (λ o p n d. Ask.Nearest)
     ∷ []
 
 -- a field that is used, or zero
@@ -71,7 +74,7 @@ askedBy (some u) o p n d =
 unfoldable pub requestOf : ℕ → ℕ → ℕ → ℕ → ℕ → Decoded
 requestOf operation o p n d = askedBy (getElem? operations operation) o p n d
 
--- "−8: record not 12 bytes, operation above 20, byte 3 or an unused field not zero"
+-- "−8: record not 12 bytes, operation above 20, byte 3 or an unused field not zero"; order 7: "−8 now starts above 22"
 unfoldable pub decodeRequest : List ℕ → Decoded
 decodeRequest r =
     if eqb (length r) requestLength && eqb (getD r 3 0) 0

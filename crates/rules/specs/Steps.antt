@@ -5,6 +5,7 @@ use Rattle.rules.specs.Threads.{doYield, doCreate, doDelete, doSet, doSu
 use Rattle.rules.specs.Mail.{doSend, doSendFromInterrupt, doReceive}
 use Rattle.rules.specs.Semaphores.{doMake, doDrop, doPend, doAbort, doPost, doPostFromInterrupt}
 use Rattle.rules.specs.Time.{doLock, doUnlock, doTick, doOutcome}
+use Rattle.rules.specs.Sleep.{doTicks, doNearest}
 use Rattle.rules.specs.declared.Request.{Request}
 use Rattle.rules.specs.declared.Request.the-variants as Ask
 
@@ -30,3 +31,5 @@ step s Ask.Lock = doLock s
 step s Ask.Unlock = doUnlock s
 step s Ask.Tick = doTick s
 step s (Ask.Outcome i) = doOutcome s i
+step s (Ask.Ticks n) = doTicks s n
+step s Ask.Nearest = doNearest s

@@ -58,7 +58,7 @@ pub struct Sem {
     pub count: u8,
 }
 
-// The 21 operations, in the order of their numbers, each with the fields that it uses.
+// The 23 operations, in the order of their numbers, each with the fields that it uses.
 pub enum Request {
     Yield,
     Create {
@@ -126,6 +126,10 @@ pub enum Request {
     Outcome {
         thread: u8,
     },
+    Ticks {
+        number: u32,
+    },
+    Nearest,
 }
 
 // What a record of 12 bytes asks, if it asks anything.

@@ -37,7 +37,7 @@ pub const BAD_TABLE: Answer = Answer::Refused {
     why: Refusal::BadTable,
 };
 
-// "Record not 12 bytes, operation above 20, byte 3 or an unused field not zero."
+// "Record not 12 bytes, operation above 20, byte 3 or an unused field not zero"; order 7: "−8 now starts above 22".
 pub const BAD_RECORD: Answer = Answer::Refused {
     why: Refusal::BadRecord,
 };

@@ -5,7 +5,7 @@ use native.Mathlib.Omega.{arith}
 use Rattle.rules.specs.Board.{printer}
 use Rattle.rules.specs.Table.{decode}
 use Rattle.laws.proofs.Word.{power-low}
-use Rattle.layout.proofs.Held.{becomes-one, whole-laid, laid-shows, changes-one}
+use Rattle.layout.proofs.Held.{whole-holds, becomes-one, whole-laid, laid-shows, changes-one}
 use Rattle.marks.proofs.Numbered.{numbered}
 use Rattle.waiting.proofs.Doing.{does-one}
 use Rattle.text.proofs.Putting.{puts-tight}
@@ -59,6 +59,7 @@ each = record {
   -- lines
   lines-fill = λ κs a z z′ ws ws′ h p q. (refl, first (becomes-one (h .1) p q));
   lines-first-of = λ κs a z z′ ws ws′ h p q. let l = numbered (a .1 .0) in (p .1 _ (l .0) refl (l .1) ∙ sym (q .1 _ (l .0) refl (l .1)), refl);
+  lines-in-rank = λ κs a z z′ ws ws′ h p q. (p ∙ sym q, refl);
   lines-is-ready = λ κs a z z′ ws ws′ h p q. (p ∙ sym q, refl);
   lines-join = λ κs a z z′ ws ws′ h p q. (p .0 _ refl ∙ sym (q .0 _ refl), first (becomes-one (h .1) (p .1) (q .1)));
   lines-leave = λ κs a z z′ ws ws′ h p q. (p .0 _ refl ∙ sym (q .0 _ refl), first (becomes-one (h .1) (p .1) (q .1)));
@@ -120,6 +121,14 @@ each = record {
   time-outcome = λ κs a z z′ ws ws′ h p q. (does-one (h .whole) p q .1, refl);
   time-tick = λ κs a z z′ ws ws′ h p q. let d = does-one (h .whole) p q in (d .1, first (d .0));
   time-unlock = λ κs a z z′ ws ws′ h p q. let d = does-one (h .whole) p q in (d .1, first (d .0));
+  -- sleep
+  sleep-leap = λ κs a z z′ ws ws′ h p q.
+      let held = whole-holds (h .0 .whole) in
+      let far = p .0 _ held .0 ∙ sym (q .0 _ held .0) in
+      let rounds = p .0 _ held .1 ∙ sym (q .0 _ held .1) in
+      (λ j. record { far = far j; rounds = rounds j }, first (becomes-one (h .0 .whole) (p .1) (q .1)));
+  sleep-nearest = λ κs a z z′ ws ws′ h p q. (does-one (h .whole) p q .1, refl);
+  sleep-ticks = λ κs a z z′ ws ws′ h p q. let d = does-one (h .whole) p q in (d .1, first (d .0));
   -- request
   request-decode = λ κs a z z′ ws ws′ h p q. (p ∙ sym q, refl);
   request-request-of = λ κs a z z′ ws ws′ h p q. (p ∙ sym q, refl);

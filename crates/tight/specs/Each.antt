@@ -12,6 +12,7 @@ use Rattle.threads.proofs as threads
 use Rattle.mail.proofs as mail
 use Rattle.semaphores.proofs as semaphores
 use Rattle.time.proofs as time
+use Rattle.sleep.proofs as sleep
 use Rattle.request.proofs as request
 use Rattle.answer.proofs as answer
 use Rattle.kernel.proofs as kernel
@@ -67,6 +68,7 @@ pub record Each : Type 1 where
   -- lines
   pub lines-fill : Determines lines.fill.Kinds.ps lines.fill.Kinds.r lines.fill.Reads.Pre lines.fill.Reads.Post
   pub lines-first-of : Determines lines.first_of.Kinds.ps lines.first_of.Kinds.r lines.first_of.Reads.Pre lines.first_of.Reads.Post
+  pub lines-in-rank : Determines lines.in_rank.Kinds.ps lines.in_rank.Kinds.r lines.in_rank.Reads.Pre lines.in_rank.Reads.Post
   pub lines-is-ready : Determines lines.is_ready.Kinds.ps lines.is_ready.Kinds.r lines.is_ready.Reads.Pre lines.is_ready.Reads.Post
   pub lines-join : Determines lines.join.Kinds.ps lines.join.Kinds.r lines.join.Reads.Pre lines.join.Reads.Post
   pub lines-leave : Determines lines.leave.Kinds.ps lines.leave.Kinds.r lines.leave.Reads.Pre lines.leave.Reads.Post
@@ -128,6 +130,10 @@ pub record Each : Type 1 where
   pub time-outcome : Determines time.outcome.Kinds.ps time.outcome.Kinds.r time.outcome.Reads.Pre time.outcome.Reads.Post
   pub time-tick : Determines time.tick.Kinds.ps time.tick.Kinds.r time.tick.Reads.Pre time.tick.Reads.Post
   pub time-unlock : Determines time.unlock.Kinds.ps time.unlock.Kinds.r time.unlock.Reads.Pre time.unlock.Reads.Post
+  -- sleep
+  pub sleep-leap : Determines sleep.leap.Kinds.ps sleep.leap.Kinds.r sleep.leap.Reads.Pre sleep.leap.Reads.Post
+  pub sleep-nearest : Determines sleep.nearest.Kinds.ps sleep.nearest.Kinds.r sleep.nearest.Reads.Pre sleep.nearest.Reads.Post
+  pub sleep-ticks : Determines sleep.ticks.Kinds.ps sleep.ticks.Kinds.r sleep.ticks.Reads.Pre sleep.ticks.Reads.Post
   -- request
   pub request-decode : Determines request.decode.Kinds.ps request.decode.Kinds.r request.decode.Reads.Pre request.decode.Reads.Post
   pub request-request-of : Determines request.request_of.Kinds.ps request.request_of.Kinds.r request.request_of.Reads.Pre request.request_of.Reads.Post

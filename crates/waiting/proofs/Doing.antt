@@ -3,14 +3,22 @@
 use mathlib.Core.Path.{_≡_, refl, ap, sym, subst, _∙_}
 use mathlib.Core.List.{List}
 use Prim.Native.Nat.{ℕ}
+use native.Mathlib.Omega.{arith}
 use Rattle.rules.specs.Board.{Board}
 use Rattle.rules.specs.State.{State}
 use Rattle.rules.specs.Table.{decode}
+use Rattle.rules.specs.Sound.{Sound}
 use Rattle.rules.specs.Waiting.{Step}
 use Rattle.rules.specs.declared.Answer.{Answer}
+use Rattle.laws.proofs.Top.{sound-running}
 use Rattle.layout.specs.Held.{Holds, Whole, Becomes}
 use Rattle.layout.proofs.Held.{whole-holds}
-use Rattle.waiting.specs.Does.{Does}
+use Rattle.layout.proofs.RoundTrip.{on-decode}
+use Rattle.waiting.specs.Does.{Serves, Does}
+
+-- a whole table that says a sound state can be served
+pub serves : {b : Board} {t : List ℕ} → Whole b t → Sound (decode b t) → Serves b t
+serves {b} {t} w σ = record { whole = w; runs = omega (arith, sound-running (decode b t) σ, on-decode b t .threads); sound = σ }
 
 -- what a rule gives, by the state alone
 abbrev pub gives : State → Answer → Step

@@ -1,6 +1,5 @@
 -- `accounts::serve_records` meets its contract: before turn j the table and the accounts are those after the first j records. Assumes nothing.
 use mathlib.Core.Path.{_≡_, refl, sym, ap, _∙_}
-use mathlib.Core.List.{[], _∷_}
 use Prim.Native.Nat.{_-_, _*_, _≤_}
 use native.Mathlib.Omega.{arith}
 use borrow.Author.Needs.{needs}
@@ -9,12 +8,12 @@ use lib.ListN.{length, take, drop}
 use Rattle.rules.specs.Board.{printer}
 use Rattle.rules.specs.Requests.{requestLength}
 use Rattle.rules.specs.Door.{door, tableAfter}
-use Rattle.rules.specs.Trace.{records, cleanArea, cleanly}
-use Rattle.fairness.specs.Doors.{eventOf, runOf}
+use Rattle.rules.specs.Trace.{records, cleanArea}
+use Rattle.fairness.specs.Doors.{runOf}
 use Rattle.lanes.specs.Kept.{of}
-use Rattle.accounts.specs.Accounts.{accountsFrom, handed, eventsOf}
+use Rattle.accounts.specs.Accounts.{accountsFrom, eventsHere, handed, eventsOf}
 use Rattle.accounts.proofs.Accounts.{accounts-none, still-within}
-use Rattle.accounts.proofs.Served.{table-next, accounts-next, length-events}
+use Rattle.accounts.proofs.Served.{table-next, accounts-next, most-events}
 use Rattle.accounts.proofs.serve_records.Statement.{statement}
 use Rattle.accounts.proofs.serve_records.Tie as tie
 
@@ -41,11 +40,10 @@ serve-record-requires c κs =
     let t = now (start .args .table) in
     let input = now (start .args .input) in
     let ns = now (start .args .accounts) in
-    let events = length-events t j input in
-    let within = still-within (start .args .k) ns (eventsOf t j input) (omega (arith, events, inv .0)) (start .pre .1 .0 .1) in
+    let within = still-within j (start .args .k) ns (eventsOf t j input) (inv .0) (most-events t j input) (start .pre .1 .0 .1) in
     let more = c .before .before .loop-test .taken in (
       inv .1 ∙ start .pre .0,
-      ((inv .2 ∙ start .pre .1 .0 .0, λ i. omega (arith, within i, ap (λ l. of l i) (inv .4), events, more)), omega (arith, more, start .pre .1 .1)),
+      ((inv .2 ∙ start .pre .1 .0 .0, λ i. omega (arith, within i, ap (λ l. of l i) (inv .4), more)), omega (arith, more, start .pre .1 .1)),
     )
 
 add-j : tie.Need-add-j Inv-loop μ-loop
@@ -69,7 +67,7 @@ loop-again c =
       served .kept .1 .0 ∙ inv .2,
       served .ensures .0 ∙ (λ i. door printer (inv .3 i) next cleanArea .table) ∙ sym (table-next t input j),
       served .ensures .1
-          ∙ (λ i. accountsFrom 0 (inv .4 i) (eventOf printer (inv .3 i) (cleanly next) (door printer (inv .3 i) next cleanArea) ∷ []))
+          ∙ (λ i. accountsFrom 0 (inv .4 i) (eventsHere (inv .3 i) next))
           ∙ sym (accounts-next t input j ns),
     )
 

@@ -3,7 +3,6 @@ use mathlib.Core.Bool.{Bool, true, false, not, _&&_}
 use mathlib.Core.Path.{_≡_, sym, ap, _∙_}
 use mathlib.Core.List.{List}
 use Prim.Native.Nat.{ℕ}
-use native.Mathlib.Omega.{arith}
 use lib.Dec.{eqb}
 use lib.ListN.{length}
 use mir.Syntax.{w32}
@@ -20,24 +19,21 @@ use Rattle.rules.specs.declared.Request.{Request}
 use Rattle.rules.specs.declared.Answer.{Answer}
 use Rattle.rules.specs.declared.Decoded.the-variants.{Asked}
 use Rattle.waiting.specs.Does.{Serves, Does}
+use Rattle.waiting.proofs.Doing.{serves}
 use Rattle.laws.proofs.Split.{and-true}
 use Rattle.laws.proofs.Tested.{tested-table}
-use Rattle.laws.proofs.Top.{sound-running}
 use Rattle.layout.proofs.Held.{whole-holds}
-use Rattle.layout.proofs.RoundTrip.{on-decode}
 use Rattle.kernel.proofs.speltmallet_door.Statement.{statement}
 use Rattle.kernel.proofs.speltmallet_door.Tie as tie
 
 -- a sound table can be served
-serves : (t : List ℕ) → soundTable printer t ≡ true → Serves printer t
-serves t e =
-    let h = tested-table printer t .0 e in
-    record { whole = record { long = h .long; meaning = h .meaning }; runs = omega (arith, sound-running (decode printer t) (h .state), on-decode printer t .threads); sound = h .state }
+can-be-served : (t : List ℕ) → soundTable printer t ≡ true → Serves printer t
+can-be-served t e = let h = tested-table printer t .0 e in serves (record { long = h .long; meaning = h .meaning }) (h .state)
 
 -- what a step makes of it and answers is what the door says
 served : (t : List ℕ) (q : Request) {t′ : List ℕ} {a : Answer} → soundTable printer t ≡ true → Does printer t t′ a (λ s. step s q) → answered t′ a ≡ serveDecoded printer t (Asked q)
 unfolding serveDecoded
-served t q e d = let h = whole-holds (serves t e .whole) in λ j. answered (d .holds (decode printer t) h .bytes j) (d .answer (decode printer t) h j)
+served t q e d = let h = whole-holds (can-be-served t e .whole) in λ j. answered (d .holds (decode printer t) h .bytes j) (d .answer (decode printer t) h j)
 
 -- a call that can be served has an area of 8 bytes and a sound table
 servable : (t a : List ℕ) {r : Bool} → r ≡ (eqb (length a) areaLength && soundTable printer t) → not r ≡ false → (length a ≡ areaLength) × (soundTable printer t ≡ true)
@@ -100,7 +96,7 @@ returns-2 c =
 step-requires : tie.Need-step-requires
 step-requires c κs =
     let start = c .before .before .before .before .before .before .before .before .before .before .before .before in
-    serves _ (servable (start .args .table .now) (start .args .answer .now) (c .before .before .before .before .before .before .can-serve .ensures) (c .before .before .before .before .before .if1 .left) .1)
+    can-be-served _ (servable (start .args .table .now) (start .args .answer .now) (c .before .before .before .before .before .before .can-serve .ensures) (c .before .before .before .before .before .if1 .left) .1)
 
 put-answer-requires-2 : tie.Need-put-answer-requires-2
 put-answer-requires-2 c κs =

@@ -16,7 +16,8 @@ use Rattle.fairness.specs.Run.{sumTurns}
 use Rattle.lanes.specs.Lag.{sumOver}
 use Rattle.lanes.specs.Report.{mostCharges}
 use Rattle.lanes.specs.Kept.{of}
-use Rattle.lags.proofs.Turned.{turns-turn, over-turn, turn-most, counted-most}
+use Rattle.leaps.proofs.Turns.{turns-turn, turn-most}
+use Rattle.lags.proofs.Turned.{over-turn, counted-most}
 use Rattle.lags.proofs.rank_of.Statement.{statement}
 use Rattle.lags.proofs.rank_of.Tie as tie
 
