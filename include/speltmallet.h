@@ -28,10 +28,10 @@ extern "C" {
 /* The project's version; the file VERSION has it too. From 0.7.0 on a blocked Send or Pend has a value: how many are ahead. From
  * 0.8.0 on units that Post hands to waiters don't count towards its limit. From 0.9.0 on a table holds the ready word: one that was
  * saved by a version before 0.9.0, or made fresh by its header, gets BAD_TABLE (-7). Make a fresh table, and set the printer up
- * anew. */
-#define SPELTMALLET_VERSION "0.9.0"
+ * anew. From 0.10.0 on there are Ticks and Nearest, operations 21 and 22, which BAD_RECORD (-8) refused before. */
+#define SPELTMALLET_VERSION "0.10.0"
 #define SPELTMALLET_VERSION_MAJOR 0
-#define SPELTMALLET_VERSION_MINOR 9
+#define SPELTMALLET_VERSION_MINOR 10
 #define SPELTMALLET_VERSION_PATCH 0
 
 /*
@@ -41,8 +41,8 @@ extern "C" {
  *   number says so. It is tested before everything else.
  * - Every other refusal (-1 to -6, -8): the table stays byte for byte as it was, and the area holds the code and value 0.
  * - DONE (0) or BLOCKED (1): the table is the next one, and the area holds the code and the value. The value is 0 but for Receive
- *   (the mail), Pend (the units left) and Outcome (the parcel), where these are done, and for Send and Pend where they are blocked:
- *   how many threads are ahead of the caller in the line that it now waits in, suspended ones among them.
+ *   (the mail), Pend (the units left), Outcome (the parcel) and Nearest (the ticks), where these are done, and for Send and Pend
+ *   where they are blocked: how many threads are ahead of the caller in the line that it now waits in, suspended ones among them.
  * - Outcome answers the thread's outcome as its code: 1, 0 and -5 are answers there and no refusals; the refusals are -1, -7, -8.
  *
  * The caller's duties, which the kernel cannot test:
@@ -91,7 +91,7 @@ int32_t speltmallet_door(uint8_t *table, size_t table_len, const uint8_t *reques
 #define SPELTMALLET_THREADS 16 /* 0 to 15; thread 0 is Init */
 #define SPELTMALLET_SEMAPHORES 8 /* 0 to 7 */
 #define SPELTMALLET_TOP_PRIORITY 31 /* 0 to 31; larger outranks smaller */
-#define SPELTMALLET_MOST_TICKS 99999L /* turns, delays and time limits are 1 to this */
+#define SPELTMALLET_MOST_TICKS 99999L /* turns, delays, time limits and the number of Ticks are 1 to this */
 #define SPELTMALLET_FOREVER 100000L /* a wait number of this or more has no time limit; 0 is never wait */
 #define SPELTMALLET_MOST_COUNT 99 /* of a semaphore */
 #define SPELTMALLET_MOST_LOCK 255 /* nesting */
@@ -101,19 +101,19 @@ int32_t speltmallet_door(uint8_t *table, size_t table_len, const uint8_t *reques
 #define SPELTMALLET_DONE 0
 #define SPELTMALLET_BAD_THREAD (-1) /* above 15, or free (Create: in use) */
 #define SPELTMALLET_BAD_PRIORITY (-2) /* above 31 */
-#define SPELTMALLET_BAD_TICKS (-3) /* a turn or delay of 0 or above 99,999 */
+#define SPELTMALLET_BAD_TICKS (-3) /* a turn, a delay or the number of Ticks is 0 or above 99,999 */
 #define SPELTMALLET_BAD_STATE (-4) /* Suspend: suspended; Resume: not; Cancel: in no delay; Abort: waits on no semaphore */
 #define SPELTMALLET_BAD_OPERATION (-5) /* not now: as each operation says below */
 #define SPELTMALLET_BAD_SEMAPHORE (-6) /* above 7, or free (Make: in use) */
 #define SPELTMALLET_BAD_TABLE (-7) /* unsound, or the answer area is not 8 bytes */
-#define SPELTMALLET_BAD_RECORD (-8) /* not 12 bytes, operation above 20, byte 3 or an unused field not zero */
+#define SPELTMALLET_BAD_RECORD (-8) /* not 12 bytes, operation above 22, byte 3 or an unused field not zero */
 
 /*
  * Operations: the fields that each uses (the others are zero), then its refusals in the order in which they are tested. Before them
  * BAD_TABLE (-7) is tested and then BAD_RECORD (-8), for every operation alike. The first that holds is the answer.
  *
- * The running thread is the caller, except in 9, 16 and 19, which come from interrupts. A call "may not wait" if its wait number is
- * 0, the caller is Init or the lock is on. A thread or semaphore is free where its record is not in use.
+ * The running thread is the caller, except in 9, 16, 19 and 21, which come from interrupts. A call "may not wait" if its wait
+ * number is 0, the caller is Init or the lock is on. A thread or semaphore is free where its record is not in use.
  */
 
 /* Yield: no fields, no refusals. */
@@ -201,7 +201,17 @@ int32_t speltmallet_door(uint8_t *table, size_t table_len, const uint8_t *reques
  * -1 thread above 15, or free. The codes 1, 0 and -5 are the outcome, and no refusals. */
 #define SPELTMALLET_OP_OUTCOME 20
 
-#define SPELTMALLET_OPERATIONS 21
+/* Ticks, from whoever has stopped the timer: number (ticks).
+ * -3 number is 0 or above 99,999. Table and answer are those of that many single Ticks: threads are charged and run on in turn, and
+ * waits end, between any two of them. Under lock nobody is charged, and waits count down. */
+#define SPELTMALLET_OP_TICKS 21
+
+/* Nearest: no fields, no refusals.
+ * The value is how many ticks it takes, if only ticks come, until the next timed wait ends, that of a suspended thread too, and 0
+ * where no wait is timed. The table stays as it is. While nobody but Init is ready, the timer may be stopped for so many ticks. */
+#define SPELTMALLET_OP_NEAREST 22
+
+#define SPELTMALLET_OPERATIONS 23
 
 /* Where the fields of a request stand. */
 #define SPELTMALLET_REQUEST_OPERATION 0
@@ -342,7 +352,8 @@ SPELTMALLET_HELPER const char *speltmallet_operation_name(uint8_t operation)
 {
     static const char *const names[SPELTMALLET_OPERATIONS] = {
         "Yield", "Create", "Delete", "Set", "Suspend", "Resume", "Delay", "Cancel", "Send", "Send from interrupt", "Receive",
-        "Make semaphore", "Drop semaphore", "Pend", "Abort", "Post", "Post from interrupt", "Lock", "Unlock", "Tick", "Outcome"
+        "Make semaphore", "Drop semaphore", "Pend", "Abort", "Post", "Post from interrupt", "Lock", "Unlock", "Tick", "Outcome",
+        "Ticks", "Nearest"
     };
 
     return operation < SPELTMALLET_OPERATIONS ? names[operation] : "no operation";

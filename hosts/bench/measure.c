@@ -6,6 +6,7 @@
  *   measure stack           the most bytes of stack that a call wrote to, its return address among them, on a painted stack; it fails
  *                           where the two kernels leave different tables or answers
  *   measure steps           instructions a call, and the deepest that the stack pointer went, one instruction at a time
+ *   measure alone           the same of the door alone, for calls that take the plain kernel millions
  *   measure time ROUNDS     nanoseconds a call, the best of so many rounds; the two kernels take turns to go first
  */
 #define _GNU_SOURCE
@@ -151,16 +152,17 @@ static uint64_t count_steps(kernel_door *door, const struct request_case *c) {
     return steps;
 }
 
-static void measure_steps(void) {
+/* Of so many of the kernels; the figures of the others are 0. */
+static void measure_steps(int counted) {
     uint32_t first, length, i;
     uint64_t around;
     begin_steps();
     around = count_steps(no_door, &cases[0]) - 2;
     for (first = 0; first < case_count; first += length) {
-        uint64_t sum[KERNELS] = {0, 0}, deepest[KERNELS];
+        uint64_t sum[KERNELS] = {0, 0}, deepest[KERNELS] = {0, 0};
         int k;
         length = group_length(first);
-        for (k = 0; k < KERNELS; k++) {
+        for (k = 0; k < counted; k++) {
             lowest = (uint64_t)(stack + PAINTED);
             for (i = first; i < first + length; i++) sum[k] += count_steps(kernels[k], &cases[i]) - around;
             deepest[k] = (uint64_t)(stack + PAINTED) - lowest;
@@ -211,8 +213,9 @@ static void measure_time(int rounds) {
 int main(int count, char **words) {
     read_cases();
     if (count == 2 && !strcmp(words[1], "stack")) measure_stack();
-    else if (count == 2 && !strcmp(words[1], "steps")) measure_steps();
+    else if (count == 2 && !strcmp(words[1], "steps")) measure_steps(KERNELS);
+    else if (count == 2 && !strcmp(words[1], "alone")) measure_steps(1);
     else if (count == 3 && !strcmp(words[1], "time")) measure_time(atoi(words[2]));
-    else fail("accepted are: stack, steps, time ROUNDS");
+    else fail("accepted are: stack, steps, alone, time ROUNDS");
     return 0;
 }

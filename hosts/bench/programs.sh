@@ -1,7 +1,8 @@
 #!/usr/bin/env bash
 # The programs' time for some 1,000,000 records beside the door's own: hosts/bench/programs.sh LIBDIR BIN, the folder that has libkernel.a
 # and the folder that has the programs. The records are those of the printer of hosts/printer; write gets the listing that list makes of
-# them, and then as many of the longest lines. Ends with status 1 where a program takes above 1.5 times the door's time.
+# them, and then as many of the longest lines. Ends with status 1 where a program takes above 1.5 times the door's time. Then report gets
+# 1,000,000 records that create two lanes and ask for 99,999 ticks at once, over and over; it may take 3 times the door's time for them.
 set -euo pipefail
 
 stop() {
@@ -33,6 +34,11 @@ records=$(($(stat -c %s "$room/requests") / 12))
 awk -v n="$records" 'BEGIN { while (n--) print "8 255 4294967295 00000000000004294967295" }' >"$room/longest"
 ../x86_64 run "$bin/write" <"$room/longest" >"$room/widest"
 
+# two lanes, and then the most ticks at once, up to the record after which report stops
+{ printf '1 1 5 2\n1 2 5 3\n' && awk 'BEGIN { for (n = 2; n < 1000000; n++) print "21 99999" }'; } >"$room/sleepy"
+../x86_64 run "$bin/write" <"$room/sleepy" >"$room/sleeps"
+asleep="report, 99,999 ticks in each record"
+
 # ROW PROGRAM INPUT: one run; its processor time in milliseconds goes to took[ROW] where it is the least so far
 declare -A took
 run() {
@@ -43,8 +49,14 @@ run() {
   if [ -z "${took[$1]-}" ] || [ "$now" -lt "${took[$1]}" ]; then took[$1]=$now; fi
 }
 
-# ROW: is its least time within 1.5 times the door's least?
-within() { [ $((took[$1] * 10)) -le $((took[door] * 15)) ]; }
+# ROW: is its least time within 1.5 times the door's least, and of the sleeps within 3 times?
+within() {
+  if [ "$1" = "$asleep" ]; then
+    [ "${took[$1]}" -le $((took[asleep] * 3)) ]
+  else
+    [ $((took[$1] * 10)) -le $((took[door] * 15)) ]
+  fi
+}
 
 # A run takes a tenth of a second, and what else the machine does can double it for seconds: all are run in turns, five times, and on while one
 # is over, up to forty times. Under the emulator a run takes seconds, and two turns do.
@@ -63,8 +75,13 @@ for round in {1..40}; do
   run report "$bin/report" "$room/requests"
   run "${rows[4]}" "$bin/write" "$room/longest"
   run "${rows[5]}" "$bin/list" "$room/widest"
+  # the sleeps take seconds: two turns do, and more while report is over
+  if [ "$round" -le 2 ] || ! within "$asleep"; then
+    run asleep "$room/serve" "$room/sleeps"
+    run "$asleep" "$bin/report" "$room/sleeps"
+  fi
   over=0
-  for row in "${rows[@]}"; do within "$row" || over=1; done
+  for row in "${rows[@]}" "$asleep"; do within "$row" || over=1; done
   [ "$round" -lt "$least" ] || [ "$over" -ne 0 ] || break
 done
 
@@ -74,4 +91,8 @@ for row in "${rows[@]}"; do
   within "$row" || verdict=OVER
   awk "BEGIN { printf \"%s: %d ms, %.2f times; at most 1.5: %s\n\", \"$row\", ${took[$row]}, ${took[$row]} / ${took[door]}, \"$verdict\" }"
 done
+verdict=OK
+within "$asleep" || verdict=OVER
+printf '1000000 records of 99,999 ticks%s: the door alone %d ms\n' "$where" "${took[asleep]}"
+awk "BEGIN { printf \"%s: %d ms, %.2f times; at most 3: %s\n\", \"$asleep\", ${took[$asleep]}, ${took[$asleep]} / ${took[asleep]}, \"$verdict\" }"
 exit "$over"

@@ -46,7 +46,9 @@ done
 [ "$(instructions '%xmm')" -gt 0 ] || stop "the header says that the archive uses SSE registers, and no instruction does: let the header say so"
 [ "$(instructions '%(ymm|zmm|mm[0-7]|st\b|k[0-7])|^(v[a-z]|f[a-z])|^emms')" = 0 ] || stop "an instruction names a register of x87, MMX or AVX"
 # a name that is not in the list may be right all the same: look it up, and add it if it is SSE2's
-sse2='movd movq movdqa movdqu movaps movups pand pandn por pxor xorps paddb psubb pmaxub pcmpeqb pcmpeqw pcmpeqd pmovmskb pshufd psrlw psrld psrlq psllw pslld psllq'
+sse2='movd movq movdqa movdqu movaps movups movapd movss movsd pand pandn por pxor andps andnps andpd orps xorps paddb paddd psubb pmaxub'
+sse2+=' pcmpeqb pcmpeqw pcmpeqd pmovmskb pshufd pshufhw pshuflw shufps psrlw psrld psrlq psrad psllw pslld psllq pslldq'
+sse2+=' punpcklbw punpcklwd punpckldq punpcklqdq punpckhbw punpckhwd'
 strange=$(awk -v known="$sse2" '
   BEGIN { split(known, names, " "); for (at in names) is_known[names[at]] }
   /%xmm/ && !($1 in is_known) { print $1 }

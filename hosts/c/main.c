@@ -1,7 +1,7 @@
 /*
- * The door from C, as the firmware calls it: a fresh table, document 01's example run, the values of answers, the ready word, what each
- * sort of refusal leaves alone, and the header's helpers. It prints a line for each check that fails and ends with status 1 if there is
- * one.
+ * The door from C, as the firmware calls it: a fresh table, document 01's example run, the values of answers, the ready word, many ticks
+ * at once, what each sort of refusal leaves alone, and the header's helpers. It prints a line for each check that fails and ends with
+ * status 1 if there is one.
  */
 #include "speltmallet.h"
 
@@ -84,6 +84,22 @@ static void line(void) {
     check_ready_word("ready word, both of priority 5", 1 | 1 << 5);
 }
 
+/* Thread 2 waits for 40 ticks, and the firmware sleeps: the ticks that Nearest gives, less one, and then one, wake it. */
+static void asleep(void) {
+    const uint8_t *sleeper = table + SPELTMALLET_THREAD(2);
+    ask("Nearest of none", SPELTMALLET_OP_NEAREST, 0, 0, 0, 0, SPELTMALLET_DONE, 0, 2);
+    ask("Delay 40", SPELTMALLET_OP_DELAY, 0, 0, 40, 0, SPELTMALLET_BLOCKED, 0, 1);
+    ask("Nearest", SPELTMALLET_OP_NEAREST, 0, 0, 0, 0, SPELTMALLET_DONE, 40, 1);
+    ask("Ticks, one less", SPELTMALLET_OP_TICKS, 0, 0, 39, 0, SPELTMALLET_DONE, 0, 1);
+    check("ticks left", (long)speltmallet_word(sleeper + SPELTMALLET_THREAD_COUNTER), 1);
+    ask("Nearest, one left", SPELTMALLET_OP_NEAREST, 0, 0, 0, 0, SPELTMALLET_DONE, 1, 1);
+    ask("Ticks by 1", SPELTMALLET_OP_TICKS, 0, 0, 1, 0, SPELTMALLET_DONE, 0, 1);
+    check("woken", sleeper[SPELTMALLET_THREAD_WAIT_KIND], SPELTMALLET_WAIT_NONE);
+    /* turns of 2 and 3: 99,995 ticks are whole rounds */
+    ask("Ticks, whole rounds", SPELTMALLET_OP_TICKS, 0, 0, SPELTMALLET_MOST_TICKS - 4, 0, SPELTMALLET_DONE, 0, 1);
+    ask("Ticks by 2", SPELTMALLET_OP_TICKS, 0, 0, 2, 0, SPELTMALLET_DONE, 0, 2);
+}
+
 /* A call that must leave the table alone and, where `untouched` says so, the answer area too. */
 static void refused(const char *what, size_t table_len, size_t request_len, size_t answer_len, int32_t code, int untouched) {
     uint8_t before[SPELTMALLET_TABLE_BYTES];
@@ -110,6 +126,12 @@ static void refusals(void) {
     refused("priority 32", 600, 12, 8, SPELTMALLET_BAD_PRIORITY, 0);
     speltmallet_request(request, SPELTMALLET_OP_SET, 1, 0, SPELTMALLET_MOST_TICKS + 1, 0);
     refused("turn 100,000", 600, 12, 8, SPELTMALLET_BAD_TICKS, 0);
+    speltmallet_request(request, SPELTMALLET_OP_TICKS, 0, 0, 0, 0);
+    refused("Ticks by 0", 600, 12, 8, SPELTMALLET_BAD_TICKS, 0);
+    speltmallet_request(request, SPELTMALLET_OP_TICKS, 0, 0, SPELTMALLET_MOST_TICKS + 1, 0);
+    refused("Ticks by 100,000", 600, 12, 8, SPELTMALLET_BAD_TICKS, 0);
+    speltmallet_request(request, SPELTMALLET_OPERATIONS, 0, 0, 0, 0);
+    refused("operation 23", 600, 12, 8, SPELTMALLET_BAD_RECORD, 0);
     speltmallet_request(request, SPELTMALLET_OP_RESUME, SPELTMALLET_THREADS, 0, 0, 0);
     refused("thread 16", 600, 12, 8, SPELTMALLET_BAD_THREAD, 0);
     speltmallet_request(request, SPELTMALLET_OP_RESUME, 1, 0, 0, 0);
@@ -185,7 +207,9 @@ static void helpers(void) {
     check_text("operation 11", speltmallet_operation_name(SPELTMALLET_OP_MAKE), "Make semaphore");
     check_text("operation 16", speltmallet_operation_name(SPELTMALLET_OP_POST_FROM_INTERRUPT), "Post from interrupt");
     check_text("operation 20", speltmallet_operation_name(SPELTMALLET_OP_OUTCOME), "Outcome");
-    check_text("operation 21", speltmallet_operation_name(SPELTMALLET_OPERATIONS), "no operation");
+    check_text("operation 21", speltmallet_operation_name(SPELTMALLET_OP_TICKS), "Ticks");
+    check_text("operation 22", speltmallet_operation_name(SPELTMALLET_OP_NEAREST), "Nearest");
+    check_text("operation 23", speltmallet_operation_name(SPELTMALLET_OPERATIONS), "no operation");
 }
 
 int main(void) {
@@ -194,6 +218,7 @@ int main(void) {
     example_run();
     mail();
     line();
+    asleep();
     refusals();
     printf("the door from C: %d checks, %d failed\n", checks, failures);
     return failures != 0;

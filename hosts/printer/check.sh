@@ -1,6 +1,7 @@
 #!/usr/bin/env bash
-# The printer over the header, without a warning: hosts/printer/check.sh LIBDIR TRACE, the folder that has libkernel.a and the trace program.
-# What the printer records is what examples/ has, and the trace of it is what the kernel answered; a TICKS that is no number is refused.
+# The printers over the header, without a warning: hosts/printer/check.sh LIBDIR TRACE, the folder that has libkernel.a and the trace program.
+# What a printer records is what examples/ has, and the trace of it is what the kernel answered; a TICKS that is no number is refused. The
+# battery printer leaves the same tables whether it sleeps or its timer wakes it for every tick.
 set -euo pipefail
 
 stop() {
@@ -16,8 +17,10 @@ cd "$(dirname "${BASH_SOURCE[0]}")"
 room=$(mktemp -d)
 trap 'rm -rf "$room"' EXIT
 
-../x86_64 cc -Wall -Wextra -Werror -std=c89 -pedantic -O2 -I../../include printer.c -o "$room/printer.o"
-../x86_64 link "$room/printer" "$room/printer.o" "$archive" 2>"$room/said" || stop "$(cat "$room/said")"
+for program in printer battery; do
+  ../x86_64 cc -Wall -Wextra -Werror -std=c89 -pedantic -O2 -I../../include "$program.c" -o "$room/$program.o"
+  ../x86_64 link "$room/$program" "$room/$program.o" "$archive" 2>"$room/said" || stop "$(cat "$room/said")"
+done
 
 # TICKS: what the printer records in so many ticks is traced to the same answers
 replayed() {
@@ -40,4 +43,21 @@ refused() {
 for word in 12abc abc '' -5 +5 ' 5' 0x10 0 1000001 99999999999999999999 -18446744073709551615; do
   refused "$word"
 done
-printf 'hosts/printer: 2 recordings replayed to the same answers\n'
+
+# WAY: what the battery printer records in this way is traced to the same answers
+battery() {
+  ../x86_64 run "$room/battery" "$1" "$room/$1.requests" "$room/$1.lines" "$room/$1.tables" >>"$room/wakes"
+  ../x86_64 run "$trace" <"$room/$1.requests" >"$room/traced"
+  cmp "$room/$1.lines" "$room/traced" || stop "the trace of the battery printer, $1, answers otherwise than it was answered"
+}
+battery asleep
+battery ticking
+[ -s "$room/asleep.tables" ] || stop "the battery printer keeps no table"
+cmp "$room/asleep.tables" "$room/ticking.tables" || stop "the battery printer leaves another table asleep than by single ticks"
+cmp "$room/asleep.requests" ../../examples/battery.trace || stop "examples/battery.trace is not what the battery printer records"
+cmp "$room/wakes" ../../examples/battery.wakes || stop "examples/battery.wakes is not what the battery printer says"
+! ../x86_64 run "$room/battery" awake "$room/none" "$room/none" "$room/none" >"$room/out" 2>"$room/said" || stop "the battery printer takes 'awake' as a way"
+[ "$(cat "$room/said")" = "battery: usage: battery asleep|ticking REQUESTS LINES TABLES" ] || stop "of 'awake' the battery printer says: $(cat "$room/said")"
+[ ! -e "$room/none" ] || stop "the battery printer refuses 'awake' and records all the same"
+moments=$(($(stat -c %s "$room/asleep.tables") / 604))
+printf 'hosts/printer: 4 recordings replayed to the same answers; asleep and by single ticks the same table after each of %d moments\n' "$moments"

@@ -5,8 +5,8 @@ use std::ops::RangeInclusive;
 use model::{at, door, operation as op, random_record, random_sound, spoil, Rng};
 use model::{RECORD, TABLE, THREADS};
 
-/// The operations by their names in document 01.
-pub const OPERATIONS: [&str; 21] = [
+/// The operations by their names in document 01 and in order 7.
+pub const OPERATIONS: [&str; 23] = [
     "Yield",
     "Create",
     "Delete",
@@ -28,6 +28,8 @@ pub const OPERATIONS: [&str; 21] = [
     "Unlock",
     "Tick",
     "Outcome",
+    "Ticks",
+    "Nearest",
 ];
 
 /// One call: a table and a request.
@@ -113,10 +115,10 @@ pub fn any(rng: &mut Rng, each: usize) -> Vec<Group> {
     while groups.iter().any(|group| group.cases.len() < each) {
         let mut table = random_sound(rng);
         let record = random_record(rng, &table);
-        let mut group = usize::from(record[0]).min(21);
+        let mut group = usize::from(record[0]).min(OPERATIONS.len());
         if rng.one_in(16) {
             spoil(rng, &mut table);
-            group = 22;
+            group = OPERATIONS.len() + 1;
         }
         if groups[group].cases.len() < each {
             groups[group].cases.push(Case { table, record });

@@ -1,10 +1,11 @@
 //! `cargo run --release -p bench` measures the compiled door beside a plain C kernel of the same
 //! rules and prints the tables of docs/BENCH.md. It fails where the door takes more than its budget
-//! of stack, or where no bound on it can be read from the archive. `-- --strict` fails also where
-//! the door is slower than its budget, and `-- --stack` measures the stack alone. With
-//! `-- --frames FILE` it prints the bound of the door in another object file or archive, and fails
-//! where there is none.
+//! of stack, where no bound on it can be read from the archive, or where Ticks takes more than the
+//! single ticks. `-- --strict` fails also where the door is slower than its budget, and `-- --stack`
+//! measures the stack and Ticks alone. With `-- --frames FILE` it prints the bound of the door in
+//! another object file or archive, and fails where there is none.
 
+mod asleep;
 mod budget;
 mod cases;
 mod frames;
@@ -40,10 +41,11 @@ fn main() -> ExitCode {
     }
 }
 
-/// Measures the stack, and all the rest too where it is asked for; gives what is wrong.
+/// Measures the stack and Ticks, and all the rest too where it is asked for; gives what is wrong.
 fn measured(all: bool, strict: bool) -> Vec<String> {
     println!("{}\n", measure::machine());
     let mut faults = stack::report();
+    faults.extend(asleep::report());
     if all {
         let slow = !speed::report(measure::emulated());
         let fault = "the door is slower than its budget";

@@ -81,6 +81,12 @@ pub fn steps(groups: &[Group], calls: usize) -> Vec<(Pair, Pair)> {
     rows.map(|row| (pair(&row, 0), pair(&row, 2))).collect()
 }
 
+/// The door's instructions a call, over all calls of each group.
+pub fn alone(groups: &[Group]) -> Vec<f64> {
+    let rows = run(&["alone"], groups, usize::MAX).into_iter();
+    rows.map(|row| row[0]).collect()
+}
+
 /// Nanoseconds a call, the best of so many rounds.
 pub fn time(groups: &[Group], rounds: usize) -> Vec<Pair> {
     let rows = run(&["time", &rounds.to_string()], groups, usize::MAX);

@@ -1,5 +1,7 @@
 //! The speed of the door beside the plain kernel: the same calls, in one run, taking turns.
 
+use std::ops::RangeInclusive;
+
 use model::{operation as op, Rng};
 
 use crate::budget::Budget;
@@ -108,16 +110,19 @@ fn print_growth(emulated: bool) {
     println!();
 }
 
+/// Accepted requests of every operation but Ticks, whose calls are many in one: `asleep` has them.
+fn mixed(rng: &mut Rng, threads: RangeInclusive<usize>) -> Vec<Group> {
+    let mut groups = accepted(rng, op::YIELD..=op::OUTCOME, threads.clone(), TIMED);
+    groups.extend(accepted(rng, op::NEAREST..=op::NEAREST, threads, TIMED));
+    groups
+}
+
 /// Prints the tables; gives whether the door is within its budget.
 pub fn report(emulated: bool) -> bool {
     println!("## Speed\n");
     let mut rng = Rng::new(62);
-    let small = measure(accepted(&mut rng, 0..=20, 2..=3, TIMED), COUNTED, emulated);
-    let full = measure(
-        accepted(&mut rng, 0..=20, 16..=16, TIMED),
-        COUNTED,
-        emulated,
-    );
+    let small = measure(mixed(&mut rng, 2..=3), COUNTED, emulated);
+    let full = measure(mixed(&mut rng, 16..=16), COUNTED, emulated);
     let worst = measure(worst(), COUNTED, emulated);
     print_rows("Small tables: 2 or 3 threads", &small, emulated);
     print_rows("Full tables: 16 threads", &full, emulated);
@@ -131,7 +136,11 @@ pub fn report(emulated: bool) -> bool {
     println!("| Budget, by instructions | ratio | at most | aim | |\n|---|---:|---:|---:|---|");
     let any = format!("the highest of any call: {}", highest.name);
     for (name, ratio, budget) in [
-        ("all operations, small and full tables", overall, &OVERALL),
+        (
+            "all operations but Ticks, small and full tables",
+            overall,
+            &OVERALL,
+        ),
         (&any, highest.ratio(), &ANY),
     ] {
         println!(

@@ -20,7 +20,12 @@ const BYTES: Budget = Budget {
 const INTERRUPT: f64 = 512.;
 
 /// What an interrupt can ask for.
-const FROM_INTERRUPT: [u8; 3] = [op::SEND_FROM_INTERRUPT, op::POST_FROM_INTERRUPT, op::TICK];
+const FROM_INTERRUPT: [u8; 4] = [
+    op::SEND_FROM_INTERRUPT,
+    op::POST_FROM_INTERRUPT,
+    op::TICK,
+    op::TICKS,
+];
 
 /// Prints the tables; gives what is wrong, a sentence for each fault.
 pub fn report() -> Vec<String> {

@@ -6,7 +6,7 @@ use model::{door, fresh, operation as op, record, FOREVER, RECORD, TABLE};
 use crate::cases::{Case, Group};
 
 /// The table after an accepted request.
-fn after(mut table: [u8; TABLE], record: [u8; RECORD]) -> [u8; TABLE] {
+pub fn after(mut table: [u8; TABLE], record: [u8; RECORD]) -> [u8; TABLE] {
     let code = door(&mut table, &record, &mut [0; 8]);
     assert!(code >= 0, "request {record:?} got {code}");
     table
@@ -44,10 +44,13 @@ fn senders(first: u8) -> [u8; TABLE] {
 
 /// Init and 15 others in one rank; Init is last, and thread 1 runs with one tick left.
 fn rank_of_16() -> [u8; TABLE] {
-    let mut table = fresh();
-    for i in 1..16 {
-        table = after(table, record(op::CREATE, i, 0, 1, 0));
-    }
+    ranked(|_| 1)
+}
+
+/// Init and 15 others of these turns in one rank; Init is last, and thread 1 runs.
+pub fn ranked(turn: impl Fn(u8) -> u32) -> [u8; TABLE] {
+    let create = |table, i| after(table, record(op::CREATE, i, 0, turn(i), 0));
+    let table = (1..16).fold(fresh(), create);
     after(table, record(op::YIELD, 0, 0, 0, 0))
 }
 

@@ -1,5 +1,5 @@
 //! What include/speltmallet.h says of each operation, its name, its fields and the order of its refusals, is what document 01's table says,
-//! as docs/SENTENCES.md quotes it.
+//! and order 7 of the operations that it adds, as docs/SENTENCES.md quotes them.
 
 use docs::names::cells;
 use docs::text;
@@ -41,6 +41,28 @@ fn quoted() -> Vec<Operation> {
     found
 }
 
+/// What order 7 says of the operations that it adds, which no row of document 01's table has.
+const ORDER_7: [&str; 3] = [
+    "Operation 21 takes a number from 1 to 99,999 and does that many ticks",
+    "Operation 22 gives as value the least number of ticks after which, if only ticks come, some timed wait ends, and 0 if there is none",
+    "−3 for 21 with 0 or above 99,999",
+];
+
+/// The operations of order 7, as these sentences have them; the order gives them no names.
+fn ordered() -> Vec<Operation> {
+    let operation =
+        |number, name: &str, uses, codes| (number, name.to_string(), fields(uses), codes);
+    vec![
+        operation(21, "Ticks", "number", vec![-3]),
+        operation(22, "Nearest", "", vec![]),
+    ]
+}
+
+/// All operations there are.
+fn wanted() -> Vec<Operation> {
+    quoted().into_iter().chain(ordered()).collect()
+}
+
 /// The comment before each operation of the header: "Name, gloss: fields.", then the refusals, each with its number first.
 fn declared() -> Vec<Operation> {
     let header = text("include/speltmallet.h");
@@ -78,20 +100,29 @@ fn declared() -> Vec<Operation> {
 }
 
 #[test]
-fn each_operation_of_the_header_is_as_in_document_01() {
-    let (quoted, declared) = (quoted(), declared());
-    assert_eq!(quoted.len(), 21, "docs/SENTENCES.md quotes 21 operations");
-    assert_eq!(declared, quoted);
+fn each_operation_of_the_header_is_as_in_document_01_and_order_7() {
+    let quoted = quoted().len();
+    assert_eq!(quoted, 21, "docs/SENTENCES.md quotes 21 operations");
+    assert_eq!(declared(), wanted());
 }
 
 #[test]
-fn the_names_that_the_header_prints_are_those_of_document_01() {
+fn the_sentences_of_order_7_are_quoted() {
+    let document = text("docs/SENTENCES.md");
+    for sentence in ORDER_7 {
+        let quoted = document.contains(sentence);
+        assert!(quoted, "docs/SENTENCES.md does not quote: {sentence}");
+    }
+}
+
+#[test]
+fn the_names_that_the_header_prints_are_those_of_the_operations() {
     let header = text("include/speltmallet.h");
     let (_, rest) = header
         .split_once("names[SPELTMALLET_OPERATIONS] = {")
         .expect("the header has the names of the operations");
     let (list, _) = rest.split_once('}').expect("the list ends");
     let names: Vec<&str> = list.split('"').skip(1).step_by(2).collect();
-    let wanted: Vec<String> = quoted().into_iter().map(|(_, name, ..)| name).collect();
+    let wanted: Vec<String> = wanted().into_iter().map(|(_, name, ..)| name).collect();
     assert_eq!(names, wanted);
 }

@@ -3,7 +3,7 @@
 use model::{fresh, operation as op, record, AREA, TABLE};
 
 /// The table after these records, each of which is accepted with this code.
-fn after(mut table: [u8; TABLE], records: &[([u8; 12], i32)]) -> [u8; TABLE] {
+pub fn after(mut table: [u8; TABLE], records: &[([u8; 12], i32)]) -> [u8; TABLE] {
     for (record, code) in records {
         assert_eq!(model::door(&mut table, record, &mut [0; AREA]), *code);
     }

@@ -3,11 +3,14 @@
 use std::collections::BTreeMap;
 use std::fmt;
 
+use model::operation as op;
+
+use crate::sleep_sorts::SLEEP_SORTS;
 use crate::sorts::{for_each_sort, SORTS};
 use crate::view::View;
 
-/// The refusals of each operation, as document 01's table lists them.
-pub const REFUSALS: [&[i32]; 21] = [
+/// The refusals of each operation, as document 01's table lists them, and those of order 7.
+pub const REFUSALS: [&[i32]; 23] = [
     &[],
     &[-2, -3, -1],
     &[-1, -5],
@@ -29,10 +32,12 @@ pub const REFUSALS: [&[i32]; 21] = [
     &[-5],
     &[],
     &[-1],
+    &[-3],
+    &[],
 ];
 
 /// The codes with which each operation is accepted.
-const ACCEPTED: [&[i32]; 21] = [
+const ACCEPTED: [&[i32]; 23] = [
     &[0],
     &[0],
     &[0],
@@ -54,6 +59,8 @@ const ACCEPTED: [&[i32]; 21] = [
     &[0],
     &[0],
     &[0, 1, -5],
+    &[0],
+    &[0],
 ];
 
 /// How often each operation got each code, and how often each sort of step was met.
@@ -67,8 +74,9 @@ impl Coverage {
     /// Counts one step from a sound table.
     pub fn see(&mut self, before: &[u8], record: &[u8], code: i32, after: &[u8]) {
         let operation = record.first().copied().unwrap_or(0);
-        *self.codes.entry((operation.min(21), code)).or_insert(0) += 1;
-        if code == -8 || (code < 0 && operation != model::operation::OUTCOME) {
+        let named = operation.min(op::LAST + 1);
+        *self.codes.entry((named, code)).or_insert(0) += 1;
+        if code == -8 || (code < 0 && operation != op::OUTCOME) {
             return;
         }
         for_each_sort(
@@ -99,7 +107,7 @@ impl Coverage {
     /// of operation and code that cannot be reached are left out.
     pub fn lacks(&self, times: u64, unreached: &[(u8, i32)]) -> Vec<String> {
         let mut lacks = Vec::new();
-        for operation in 0..=20u8 {
+        for operation in 0..=op::LAST {
             let row = usize::from(operation);
             for &code in ACCEPTED[row].iter().chain(REFUSALS[row]).chain(&[-8]) {
                 let met = self.codes.get(&(operation, code)).copied().unwrap_or(0);
@@ -110,7 +118,7 @@ impl Coverage {
                 }
             }
         }
-        for sort in SORTS {
+        for sort in SORTS.iter().chain(SLEEP_SORTS) {
             let met = self.sorts.get(*sort).copied().unwrap_or(0);
             if met < times {
                 lacks.push(format!("{sort}: {met} times"));
@@ -122,7 +130,7 @@ impl Coverage {
     /// Codes that document 01 does not list for their operation.
     pub fn strays(&self) -> Vec<(u8, i32)> {
         let listed = |&(operation, code): &(u8, i32)| match operation {
-            0..=20 => {
+            0..=op::LAST => {
                 let row = usize::from(operation);
                 code == -8 || ACCEPTED[row].contains(&code) || REFUSALS[row].contains(&code)
             }
@@ -138,13 +146,13 @@ impl Coverage {
 
 impl fmt::Display for Coverage {
     fn fmt(&self, f: &mut fmt::Formatter) -> fmt::Result {
-        for operation in 0..=21u8 {
+        for operation in 0..=op::LAST + 1 {
             let its = self.codes.iter().filter(|((op, _), _)| *op == operation);
             let texts: Vec<String> = its
                 .map(|((_, code), times)| format!("{code}: {times}"))
                 .collect();
-            let name = if operation > 20 {
-                "above 20".to_string()
+            let name = if operation > op::LAST {
+                format!("above {}", op::LAST)
             } else {
                 operation.to_string()
             };

@@ -10,11 +10,14 @@ mod lent;
 #[cfg_attr(not(emulated), path = "linked.rs")]
 mod machine;
 mod runs;
+mod sleep_sorts;
 mod sorts;
+mod together;
 mod view;
 
 pub use coverage::{Coverage, REFUSALS};
 pub use hold::{Answered, Hold};
 pub use machine::door;
 pub use runs::random_run;
+pub use together::ticked;
 pub use view::View;

@@ -9,22 +9,26 @@ use crate::view::View;
 
 /// What a run prefers: of eight random records of an operation, so many are kept.
 #[derive(Clone, Copy)]
-struct Mood([u8; 21]);
+struct Mood([u8; op::LAST as usize + 1]);
 
 impl Mood {
     /// All operations alike.
-    const EVEN: Mood = Mood([8; 21]);
+    const EVEN: Mood = Mood::each(8);
     /// Threads and semaphores stay, so that lines grow long.
-    const CROWDED: Mood = Mood([8; 21]).with(op::DELETE, 1).with(op::DROP, 1);
+    const CROWDED: Mood = Mood::each(8).with(op::DELETE, 1).with(op::DROP, 1);
     /// Time passes.
-    const TICKING: Mood = Mood([2; 21]).with(op::DELETE, 1).with(op::TICK, 8);
+    const TICKING: Mood = Mood::each(2)
+        .with(op::DELETE, 1)
+        .with(op::TICK, 8)
+        .with(op::TICKS, 4)
+        .with(op::NEAREST, 4);
     /// Mail goes around.
-    const MAIL: Mood = Mood([2; 21])
+    const MAIL: Mood = Mood::each(2)
         .with(op::SEND, 8)
         .with(op::RECEIVE, 4)
         .with(op::TICK, 4);
     /// Units go around.
-    const UNITS: Mood = Mood([2; 21])
+    const UNITS: Mood = Mood::each(2)
         .with(op::DELETE, 1)
         .with(op::PEND, 8)
         .with(op::TICK, 4);
@@ -36,6 +40,10 @@ impl Mood {
         Mood::MAIL,
         Mood::UNITS,
     ];
+
+    const fn each(kept: u8) -> Mood {
+        Mood([kept; op::LAST as usize + 1])
+    }
 
     const fn with(self, operation: u8, kept: u8) -> Mood {
         let Mood(mut weights) = self;

@@ -2,6 +2,7 @@
 
 use model::{operation as op, wait, word, FULL_COUNT, THREADS};
 
+use crate::sleep_sorts::{see_nearest, see_ticks};
 use crate::view::View;
 
 /// Every sort of step that a test can ask for.
@@ -96,7 +97,7 @@ fn cause(operation: u8) -> &'static str {
         op::ABORT => "Abort",
         op::POST => "Post",
         op::POST_FROM_INTERRUPT => "Post from interrupt",
-        op::TICK => "time",
+        op::TICK | op::TICKS => "time",
         _ => "nothing that document 01 names",
     }
 }
@@ -119,6 +120,11 @@ pub fn for_each_sort(before: View, record: &[u8], after: View, see: &mut dyn FnM
     }
     see_running(before, operation, after, see);
     see_operation(before, record, after, see);
+    match operation {
+        op::TICKS => see_ticks(before, word(record, 4), after, see),
+        op::NEAREST => see_nearest(before, see),
+        _ => {}
+    }
 }
 
 /// What becomes of one thread's wait; gives whether it ended.

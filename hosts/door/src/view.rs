@@ -77,6 +77,25 @@ impl View<'_> {
         (0..THREADS).filter(has).count()
     }
 
+    /// The ticks that the wait of thread `i` has left; nothing where it has none or no time limit.
+    pub fn left(&self, i: usize) -> Option<u32> {
+        let waits = self.in_use(i) && self.wait(i).0 != wait::NONE;
+        Some(self.counter(i)).filter(|&left| waits && left > 0)
+    }
+
+    /// The threads in a timed wait, as bits.
+    pub fn timed(&self) -> u16 {
+        let timed = (0..THREADS).filter(|&i| self.left(i).is_some());
+        timed.fold(0, |set, i| set | 1 << i)
+    }
+
+    /// The sum of the turns of the rank that runs.
+    pub fn round(&self) -> u32 {
+        let set = self.ready_set(self.priority(self.running()));
+        let members = (0..THREADS).filter(|&i| set >> i & 1 == 1);
+        members.map(|i| self.turn(i)).sum()
+    }
+
     /// How many threads stand behind thread `i` in its line.
     pub fn behind(&self, i: usize) -> usize {
         let length = match self.wait(i) {

@@ -3,12 +3,13 @@
 //! step, none of them yields and none is named in an accepted change of settings [...] in every
 //! unbroken part of the run where the ticks charged to that rank equal the sum of the threads'
 //! turns, each thread was charged exactly its own turn." Charges are counted from the run, not from
-//! stored counters.
+//! stored counters. Order 7: "Demand 3 counts an accepted operation 21 as its single ticks: its
+//! premise is read after each, and a part may begin or end between them."
 
 use std::collections::VecDeque;
 
 use door::{door, View};
-use model::{fresh, operation as op, random_record, random_sound, record, show, Rng};
+use model::{fresh, operation as op, random_record, random_sound, record, show, word, Rng};
 use model::{INIT, TABLE, THREADS};
 
 /// One rank, watched since its premises began to hold.
@@ -121,8 +122,10 @@ impl Watch {
 /// A random record that, as far as can be seen before it is put, leaves the rank's premises alone.
 fn harmless(rng: &mut Rng, view: View, watch: &Watch) -> Vec<u8> {
     let tick = record(op::TICK, 0, 0, 0, 0);
+    let few = rng.between(1, 9);
     match rng.below(16) {
-        0..=8 => return tick.to_vec(),
+        0..=7 => return tick.to_vec(),
+        8 => return record(op::TICKS, 0, 0, few, 0).to_vec(),
         9 => return malformed_tick(rng),
         10 if view.lock() > 0 => return record(op::UNLOCK, 0, 0, 0, 0).to_vec(),
         _ => {}
@@ -139,9 +142,11 @@ fn harmless(rng: &mut Rng, view: View, watch: &Watch) -> Vec<u8> {
             op::SET | op::DELETE | op::SUSPEND => on_member,
             op::CREATE => record[2] == watch.rank,
             op::RESUME | op::CANCEL | op::ABORT => of_rank(object),
+            // one by one many take long
+            op::TICKS => word(&record, 4) > 60,
             _ => false,
         };
-        if !harms || rng.one_in(200) {
+        if !harms || (operation != op::TICKS && rng.one_in(200)) {
             return record.to_vec();
         }
     }
@@ -174,17 +179,29 @@ fn run(seed: u64, rng: &mut Rng, table: &mut [u8; TABLE], steps: usize, parts: &
     let mut watch = Watch::begin(seed, View(table), rank);
     for _ in 0..steps {
         let record = harmless(rng, View(table), &watch);
-        let before = *table;
-        let mut area = [0; 8];
-        let area = &mut area[..if rng.one_in(64) { 7 } else { 8 }];
-        let code = door(table, &record, area);
-        let (before, after) = (View(&before), View(table));
-        if watch.holds(before, &record, code, after) {
-            watch.see(before, &record, code, after, parts);
-        } else {
-            let rank = choose_rank(rng, after);
-            watch = Watch::begin(seed, after, rank);
+        let area = &mut [0; 8][..if rng.one_in(64) { 7 } else { 8 }];
+        let mut at_once = *table;
+        let sleeps = record[0] == op::TICKS && door(&mut at_once, &record, area) == 0;
+        for single in singles(&record, sleeps) {
+            let before = *table;
+            let code = door(table, &single, area);
+            let (before, after) = (View(&before), View(table));
+            if watch.holds(before, &single, code, after) {
+                watch.see(before, &single, code, after, parts);
+            } else {
+                let rank = choose_rank(rng, after);
+                watch = Watch::begin(seed, after, rank);
+            }
         }
+        assert!(!sleeps || *table == at_once, "{}", show(&at_once));
+    }
+}
+
+/// What counts of a record: of an accepted Ticks its single ticks.
+fn singles(record: &[u8], sleeps: bool) -> Vec<Vec<u8>> {
+    match sleeps {
+        true => vec![model::record(op::TICK, 0, 0, 0, 0).to_vec(); word(record, 4) as usize],
+        false => vec![record.to_vec()],
     }
 }
 

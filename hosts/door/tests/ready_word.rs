@@ -48,6 +48,8 @@ const KINDS: &[(&str, Moves)] = &[
     ("Unlock", NOTHING),
     ("Tick", SETS),
     ("Outcome", NOTHING),
+    ("Ticks", SETS),
+    ("Nearest", NOTHING),
 ];
 
 /// The kind of an accepted step.
@@ -84,6 +86,8 @@ fn kind(before: View, record: &[u8], code: i32) -> &'static str {
         op::LOCK => "Lock",
         op::UNLOCK => "Unlock",
         op::TICK => "Tick",
+        op::TICKS => "Ticks",
+        op::NEAREST => "Nearest",
         _ => "Outcome",
     }
 }

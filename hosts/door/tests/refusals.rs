@@ -1,5 +1,5 @@
-//! Every refusal of document 01's table, by name and on its boundaries, and the order of the
-//! refusals where two conditions hold at once.
+//! Every refusal of document 01's table and of order 7, by name and on its boundaries, and the order
+//! of the refusals where two conditions hold at once.
 
 use std::collections::BTreeSet;
 
@@ -95,6 +95,10 @@ const ON_BUSY: &[(Asked, i32)] = &[
     ((op::OUTCOME, 8, 0, 0, 0), -1),
     ((op::OUTCOME, 16, 0, 0, 0), -1),
     ((op::OUTCOME, 255, 0, 0, 0), -1),
+    ((op::TICKS, 0, 0, 0, 0), -3),
+    ((op::TICKS, 0, 0, 100_000, 0), -3),
+    ((op::TICKS, 0, 0, 1 << 17 | 1, 0), -3),
+    ((op::TICKS, 0, 0, u32::MAX, 0), -3),
 ];
 
 /// What Post and Post from interrupt both refuse. One thread waits on semaphore 0, so that 100 units
@@ -135,6 +139,8 @@ const UNDER_LOCK: &[(Asked, i32)] = &[
     ((op::POST_FROM_INTERRUPT, 0, 0, 100, 0), -5),
     ((op::POST_FROM_INTERRUPT, 2, 0, 1, 0), -5),
     ((op::POST_FROM_INTERRUPT, 3, 0, 1, 0), -6),
+    ((op::TICKS, 0, 0, 0, 0), -3),
+    ((op::TICKS, 0, 0, 100_000, 0), -3),
 ];
 
 const BY_INIT: &[(Asked, i32)] = &[
@@ -144,6 +150,8 @@ const BY_INIT: &[(Asked, i32)] = &[
     ((op::SEND, 2, 0, 5, 77), -5),
     ((op::RECEIVE, 0, 0, 5, 0), -5),
     ((op::PEND, 0, 0, 100_000, 0), -5),
+    ((op::TICKS, 0, 0, 0, 0), -3),
+    ((op::TICKS, 0, 0, u32::MAX, 0), -3),
 ];
 
 fn request((operation, object, priority, number, data): Asked) -> [u8; 12] {
@@ -183,7 +191,7 @@ fn every_refusal() {
     hold.finish();
 }
 
-/// The rows above have every refusal of document 01's table and no other.
+/// The rows above have every refusal of document 01's table and of order 7, and no other.
 #[test]
 fn no_refusal_is_left_out() {
     let rows = refusals()

@@ -82,6 +82,8 @@ fields_have_the_names_of_the_rules() {
   has "  1 THREAD PRIORITY TURN   Create" "$TRIED/operations"
   has "  9 THREAD PARCEL          Send from interrupt" "$TRIED/operations"
   has " 13 SEMAPHORE NUMBER       Pend" "$TRIED/operations"
+  has " 21 NUMBER                 Ticks" "$TRIED/operations"
+  has " 22                        Nearest" "$TRIED/operations"
 }
 
 # FILE SCRIPT: edits a file of the scratch checkout's rules by sed.

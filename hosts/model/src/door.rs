@@ -35,13 +35,14 @@ pub fn door(table: &mut [u8], record: &[u8], area: &mut [u8]) -> i32 {
 impl Kernel {
     /// One request: its operation and, if that is not refused, the choice of the running thread.
     /// After a refusal the state has no meaning and is thrown away.
-    fn step(&mut self, request: &Request) -> Reply {
+    pub fn step(&mut self, request: &Request) -> Reply {
         let answer = self.perform(request)?;
         self.choose_running();
         Ok(answer)
     }
 
-    /// "The running thread is the caller, except in 9, 16 and 19, which come from interrupts."
+    /// "The running thread is the caller, except in 9, 16 and 19, which come from interrupts." So
+    /// does 21, which stands for many of 19.
     fn perform(&mut self, request: &Request) -> Reply {
         let Request {
             operation,
@@ -72,6 +73,8 @@ impl Kernel {
             op::UNLOCK => self.unlock(),
             op::TICK => self.tick(),
             op::OUTCOME => self.outcome(object),
+            op::TICKS => self.ticks(number),
+            op::NEAREST => self.nearest(),
             _ => Err(code::MALFORMED),
         }
     }

@@ -18,7 +18,7 @@ pub const FULL_COUNT: u8 = 99;
 /// "Lock nesting 0 to 255."
 pub const DEEPEST_LOCK: u8 = 255;
 
-/// The operations: "Numbers 0 to 16 are 001's call list."
+/// The operations: "Numbers 0 to 16 are 001's call list." Order 7 adds 21 and 22.
 pub mod operation {
     pub const YIELD: u8 = 0;
     pub const CREATE: u8 = 1;
@@ -41,8 +41,10 @@ pub mod operation {
     pub const UNLOCK: u8 = 18;
     pub const TICK: u8 = 19;
     pub const OUTCOME: u8 = 20;
-    /// The largest operation there is.
-    pub const LAST: u8 = OUTCOME;
+    pub const TICKS: u8 = 21;
+    pub const NEAREST: u8 = 22;
+    /// The largest operation there is. Order 7: "−8 now starts above 22."
+    pub const LAST: u8 = NEAREST;
 }
 
 /// The codes: "code 0 is done and 1 is blocked", and the refusals.
@@ -53,7 +55,7 @@ pub mod code {
     pub const THREAD: i32 = -1;
     /// "priority above 31"
     pub const PRIORITY: i32 = -2;
-    /// "turn or delay 0 or above 99,999"
+    /// "turn or delay 0 or above 99,999", and order 7: "for 21 with 0 or above 99,999"
     pub const TURN: i32 = -3;
     /// "Suspend: already suspended; Resume: not; Cancel: not in a delay; Abort: not waiting on a
     /// semaphore"
@@ -64,7 +66,7 @@ pub mod code {
     pub const SEMAPHORE: i32 = -6;
     /// "table unsound, or answer area not 8 bytes"
     pub const UNSOUND: i32 = -7;
-    /// "record not 12 bytes, operation above 20, byte 3 or an unused field not zero"
+    /// "record not 12 bytes, operation above [22, order 7], byte 3 or an unused field not zero"
     pub const MALFORMED: i32 = -8;
 }
 

@@ -9,7 +9,7 @@ use crate::rng::Rng;
 /// an operation uses hold anything, often a boundary.
 pub fn random_request(rng: &mut Rng) -> [u8; RECORD] {
     let operation = rng.below(usize::from(op::LAST) + 1) as u8;
-    let uses = uses(operation).expect("the operation is at most 20");
+    let uses = uses(operation).expect("the operation is at most 22");
     let mut small = |used| if used { random_byte(rng) } else { 0 };
     let (object, priority) = (small(uses.object), small(uses.priority));
     let mut large = |used| if used { random_word(rng) } else { 0 };

@@ -3,13 +3,13 @@
 use crate::names::{operation as op, wait, FOREVER, LONGEST, SEMAPHORES, THREADS};
 use crate::request::{record, uses, RECORD};
 use crate::rng::Rng;
-use crate::table::at;
+use crate::table::{at, word};
 
 /// A random record. All operations are about equally frequent; fields fit the table most of the
 /// time or stand on a boundary. One record in 32 is changed, which mostly makes it malformed.
 pub fn random_record(rng: &mut Rng, table: &[u8]) -> [u8; RECORD] {
     let operation = rng.below(usize::from(op::LAST) + 1) as u8;
-    let uses = uses(operation).expect("the operation is at most 20");
+    let uses = uses(operation).expect("the operation is at most 22");
     let object = match operation {
         op::MAKE | op::DROP | op::PEND | op::POST | op::POST_FROM_INTERRUPT => {
             semaphore_for(rng, table, operation)
@@ -32,12 +32,12 @@ pub fn random_record(rng: &mut Rng, table: &[u8]) -> [u8; RECORD] {
     record
 }
 
-/// One byte after the operation becomes something else, or the operation goes above 20. A byte of
+/// One byte after the operation becomes something else, or the operation goes above 22. A byte of
 /// a field that is used gives another record that may be well formed.
 fn malform(rng: &mut Rng, record: &mut [u8; RECORD]) {
     let any = rng.between(1, 255) as u8;
     match rng.below(3) {
-        0 => record[0] = rng.pick(&[21, 22, 99, 255, any]),
+        0 => record[0] = rng.pick(&[23, 24, 99, 255, any]),
         1 => record[3] = rng.pick(&[1, 255, any]),
         _ => record[rng.between(1, 11) as usize] = rng.pick(&[1, 255, any]),
     }
@@ -51,6 +51,15 @@ fn byte(table: &[u8], offset: usize) -> u8 {
 /// A byte of thread `i`.
 fn field(table: &[u8], i: usize, offset: usize) -> u8 {
     byte(table, at::thread(i) + offset)
+}
+
+/// A wide field of thread `i`, 0 where the table is too short.
+fn wide(table: &[u8], i: usize, offset: usize) -> u32 {
+    let bytes = table.get(at::thread(i) + offset..).unwrap_or(&[]);
+    if bytes.len() < 4 {
+        return 0;
+    }
+    word(bytes, 0)
 }
 
 /// Mostly a thread on which the operation has something to do, else any thread in use, else any
@@ -125,10 +134,54 @@ fn number_for(rng: &mut Rng, table: &[u8], operation: u8, object: u8) -> u32 {
     let edge = rng.pick(&[0, 1, 99, 100, LONGEST, FOREVER, u32::MAX, any]);
     match operation {
         op::POST | op::POST_FROM_INTERRUPT => units_for(rng, table, object, edge),
+        op::TICKS => ticks_for(rng, table),
         op::MAKE => rng.pick(&[0, 0, 0, 1, few, 98, edge]),
         op::SEND | op::RECEIVE | op::PEND => rng.pick(&[few, few, few, FOREVER, edge]),
         _ => rng.pick(&[few, few, few, few, edge]),
     }
+}
+
+/// The most ticks of one record, but for few.
+const QUIET: u32 = 400;
+
+/// How many ticks: few, or around the end of the nearest wait and around a round of the rank that
+/// runs, or any up to 400; one in 16 on the boundary of −3, and one in 128 the most there are, which
+/// take the model long.
+fn ticks_for(rng: &mut Rng, table: &[u8]) -> u32 {
+    let any = rng.bits() as u32;
+    if rng.one_in(128) {
+        return LONGEST;
+    }
+    if rng.one_in(16) {
+        return rng.pick(&[0, 0, FOREVER, FOREVER, 1 << 31, u32::MAX, any | FOREVER]);
+    }
+    let few = rng.between(1, 5);
+    let quiet = rng.between(1, QUIET);
+    let near = rng.pick(&[nearest(table), round(table)]).min(QUIET);
+    let near = rng.pick(&[near, near + 1, near.saturating_sub(1)]);
+    rng.pick(&[few, few, near.max(1), near.max(1), quiet])
+}
+
+/// The least counter of a timed wait, 0 where there is none.
+fn nearest(table: &[u8]) -> u32 {
+    let timed = |&i: &usize| field(table, i, at::WAIT_KIND) != wait::NONE;
+    let left = (0..THREADS)
+        .filter(timed)
+        .map(|i| wide(table, i, at::COUNTER));
+    left.filter(|&left| left > 0).min().unwrap_or(0)
+}
+
+/// The sum of the turns of the ready threads of the rank that runs.
+fn round(table: &[u8]) -> u32 {
+    let running = usize::from(byte(table, at::RUNNING)) % THREADS;
+    let rank = field(table, running, at::PRIORITY);
+    let ready = |&i: &usize| {
+        let stops = [at::SUSPENDED, at::WAIT_KIND];
+        field(table, i, at::IN_USE) == 1 && stops.iter().all(|&stop| field(table, i, stop) == 0)
+    };
+    let members = (0..THREADS).filter(ready);
+    let members = members.filter(|&i| field(table, i, at::PRIORITY) == rank);
+    members.fold(0, |sum, i| sum.saturating_add(wide(table, i, at::TURN)))
 }
 
 /// Units on the boundaries of the line's length, of the most that Post takes, and where a sum of

@@ -70,9 +70,13 @@ impl Mix {
     }
 }
 
-/// A tick; one in 16 is changed, and so refused.
+/// A tick, or some at once; one in 16 is changed, and so mostly refused.
 fn tick(rng: &mut Rng) -> [u8; RECORD] {
-    let mut tick = record(op::TICK, 0, 0, 0, 0);
+    let few = rng.between(1, 40);
+    let mut tick = match rng.below(8) {
+        0 => record(op::TICKS, 0, 0, few, 0),
+        _ => record(op::TICK, 0, 0, 0, 0),
+    };
     if rng.one_in(16) {
         tick[rng.between(1, 11) as usize] = rng.pick(&[1, 19, 255]);
     }

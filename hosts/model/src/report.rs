@@ -6,8 +6,8 @@ use std::io::{self, BufReader, Read, Write};
 use crate::door::{door, AREA};
 use crate::kernel::Kernel;
 use crate::names::{code, operation as op, INIT, THREADS};
-use crate::request::RECORD;
-use crate::table::{at, fresh, read, TABLE};
+use crate::request::{RECORD, TICK};
+use crate::table::{fresh, read, word, TABLE};
 use crate::trace::fill;
 
 /// "If whole records are left after 1,000,000"
@@ -57,19 +57,31 @@ impl Run {
         }
     }
 
-    /// One record. A tick is charged to the thread that ran before it, and to nobody while the
-    /// lock is on or where it is refused.
+    /// One record. A tick that is refused is charged to nobody.
     fn serve(&mut self, record: &[u8; RECORD]) {
-        let ran = usize::from(self.table[at::RUNNING]);
-        let locked = self.table[at::LOCK] > 0;
+        let before = self.table;
         let done = door(&mut self.table, record, &mut [0; AREA]) == code::DONE;
         match record[0] {
             op::CREATE if done => self.lives[usize::from(record[1])].push(0),
-            op::TICK if done && !locked => {
-                let life = self.lives[ran].last_mut();
-                *life.expect("whoever runs lives") += 1;
-            }
+            op::TICK if done => self.charge(&read(&before)),
+            op::TICKS if done => self.charge_each(read(&before), word(record, 4)),
             _ => {}
+        }
+    }
+
+    /// A tick is charged to the thread that ran before it, and to nobody while the lock is on.
+    fn charge(&mut self, before: &Kernel) {
+        if !before.locked() {
+            let life = self.lives[before.running].last_mut();
+            *life.expect("whoever runs lives") += 1;
+        }
+    }
+
+    /// Order 7: an accepted operation 21 "as its single ticks", one by one.
+    fn charge_each(&mut self, mut kernel: Kernel, ticks: u32) {
+        for _ in 0..ticks {
+            self.charge(&kernel);
+            kernel.step(&TICK).expect("a tick is never refused");
         }
     }
 

@@ -16,6 +16,15 @@ pub(crate) struct Request {
     pub data: u32,
 }
 
+/// What the timer asks.
+pub(crate) const TICK: Request = Request {
+    operation: op::TICK,
+    object: 0,
+    priority: 0,
+    number: 0,
+    data: 0,
+};
+
 /// The fields that an operation uses.
 #[derive(Clone, Copy, Debug, PartialEq, Eq)]
 pub struct Uses {
@@ -36,14 +45,16 @@ pub fn record(operation: u8, object: u8, priority: u8, number: u32, data: u32) -
     record
 }
 
-/// The column "Uses" of the table of operations; nothing for "operation above 20".
+/// The column "Uses" of the table of operations. Order 7: "Operation 21 takes a number", and 22
+/// nothing. Nothing for an operation above 22.
 pub fn uses(operation: u8) -> Option<Uses> {
     let (object, priority, number, data) = match operation {
         op::YIELD | op::LOCK | op::UNLOCK | op::TICK => (false, false, false, false),
+        op::NEAREST => (false, false, false, false),
         op::CREATE | op::SET => (true, true, true, false),
         op::DELETE | op::SUSPEND | op::RESUME | op::CANCEL => (true, false, false, false),
         op::DROP | op::ABORT | op::OUTCOME => (true, false, false, false),
-        op::DELAY | op::RECEIVE => (false, false, true, false),
+        op::DELAY | op::RECEIVE | op::TICKS => (false, false, true, false),
         op::SEND => (true, false, true, true),
         op::SEND_FROM_INTERRUPT => (true, false, false, true),
         op::MAKE | op::PEND => (true, false, true, false),
@@ -58,7 +69,7 @@ pub fn uses(operation: u8) -> Option<Uses> {
     })
 }
 
-/// −8: "record not 12 bytes, operation above 20, byte 3 or an unused field not zero"
+/// −8: "record not 12 bytes, operation above [22, order 7], byte 3 or an unused field not zero"
 pub(crate) fn parse(record: &[u8]) -> Result<Request, i32> {
     if record.len() != RECORD {
         return Err(code::MALFORMED);

@@ -11,8 +11,8 @@ fn check_priority(priority: u8) -> Result<(), i32> {
     Ok(())
 }
 
-/// −3: "turn or delay 0 or above 99,999"
-fn check_turn(number: u32) -> Result<(), i32> {
+/// −3: "turn or delay 0 or above 99,999", and order 7: "for 21 with 0 or above 99,999"
+pub(crate) fn check_turn(number: u32) -> Result<(), i32> {
     if number == 0 || number > LONGEST {
         return Err(code::TURN);
     }

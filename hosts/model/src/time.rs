@@ -1,7 +1,8 @@
-//! The operations Lock, Unlock, Tick and Outcome.
+//! The operations Lock, Unlock, Tick, Outcome, Ticks and Nearest.
 
-use crate::kernel::{Answer, Kernel, Reply, Wait, DONE};
+use crate::kernel::{done_with, Answer, Kernel, Reply, Wait, DONE};
 use crate::names::{code, outcome, DEEPEST_LOCK, THREADS};
+use crate::threads::check_turn;
 
 impl Kernel {
     /// "Lock −5 at 255."
@@ -32,6 +33,28 @@ impl Kernel {
             self.count_down(i);
         }
         DONE
+    }
+
+    /// Order 7: "Operation 21 takes a number from 1 to 99,999 and does that many ticks: table and
+    /// answer equal those of that many single ones." A single one is a step of its own, after which
+    /// the running thread is chosen.
+    pub fn ticks(&mut self, number: u32) -> Reply {
+        check_turn(number)?;
+        for _ in 0..number {
+            self.tick()?;
+            self.choose_running();
+        }
+        DONE
+    }
+
+    /// Order 7: "Operation 22 gives as value the least number of ticks after which, if only ticks
+    /// come, some timed wait ends, and 0 if there is none." A timed wait has a counter above 0, and
+    /// goes on while its thread is suspended.
+    pub fn nearest(&self) -> Reply {
+        let waits = self.threads.iter().flatten();
+        let waits = waits.filter(|thread| thread.wait != Wait::Nothing);
+        let timed = waits.map(|thread| thread.counter).filter(|&left| left > 0);
+        done_with(timed.min().unwrap_or(0))
     }
 
     /// "the running thread is charged: counter less 1 and, if that gives 0, tail of its line with

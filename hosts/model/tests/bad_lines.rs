@@ -62,8 +62,10 @@ fn every_line_ends_in_a_line_feed() {
 #[test]
 fn an_operation_that_minus_8_refuses_is_bad() {
     accepted("20 1", record(20, 1, 0, 0, 0));
+    accepted("21 1", record(21, 0, 0, 1, 0));
+    accepted("22", record(22, 0, 0, 0, 0));
     for fields in ["", " 1", " 1 1", " 1 1 1"] {
-        for operation in 21..=600 {
+        for operation in 23..=600 {
             bad(format!("{operation}{fields}").as_bytes());
         }
         for operation in [1_u64 << 32, (1 << 32) + 17, u64::MAX, u64::MAX - 255 + 17] {
@@ -186,13 +188,13 @@ fn zeros_in_front_are_accepted() {
     );
     bad(b"01 0256 000255 00004294967295");
     bad(b"01 0255 000255 00004294967296");
-    bad(b"021");
-    bad(b"000021 1");
+    bad(b"023");
+    bad(b"000023 1");
 }
 
 #[test]
 fn the_writer_stops_at_the_first_bad_line() {
-    let bad_lines = ["", "21", "19 ", "6 x", "20 256"];
+    let bad_lines = ["", "21", "22 0", "23", "19 ", "6 x", "20 256"];
     for first in bad_lines {
         for second in bad_lines {
             let text = format!("17\n17\n{first}\n17\n{second}\n17\n");

@@ -117,6 +117,7 @@ impl Asked<'_> {
             17 => vec![(self.table[577] == 255, -5)],
             18 => vec![(self.table[577] == 0, -5)],
             20 => vec![no_thread],
+            21 => vec![turn],
             _ => vec![],
         }
     }
@@ -125,14 +126,14 @@ impl Asked<'_> {
 /// The operations that use the object, the priority, the number and the data.
 const OBJECT: &[u8] = &[1, 2, 3, 4, 5, 7, 8, 9, 11, 12, 13, 14, 15, 16, 20];
 const PRIORITY: &[u8] = &[1, 3];
-const NUMBER: &[u8] = &[1, 3, 6, 8, 10, 11, 13, 15, 16];
+const NUMBER: &[u8] = &[1, 3, 6, 8, 10, 11, 13, 15, 16, 21];
 const DATA: &[u8] = &[8, 9];
 
 fn is_malformed(record: &[u8; 12]) -> bool {
     let unused = |users: &[u8], field: &[u8]| {
         !users.contains(&record[0]) && field.iter().any(|&byte| byte != 0)
     };
-    record[0] > 20
+    record[0] > 22
         || record[3] != 0
         || unused(OBJECT, &record[1..2])
         || unused(PRIORITY, &record[2..3])
@@ -207,7 +208,7 @@ fn boards() -> Vec<Board> {
 #[test]
 fn each_code_on_every_object_and_boundary() {
     for board in boards() {
-        for operation in 0..=21 {
+        for operation in 0..=23 {
             let objects = if OBJECT.contains(&operation) { 18 } else { 2 };
             let priorities: &[u8] = if PRIORITY.contains(&operation) {
                 &[0, 31, 32]

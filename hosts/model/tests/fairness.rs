@@ -3,6 +3,8 @@
 //! and none is named in an accepted change of settings [...] in every unbroken part of the run
 //! where the ticks charged to that rank equal the sum of the threads' turns, each thread was
 //! charged exactly its own turn." Charges are counted from the run, not from stored counters.
+//! Order 7: "Demand 3 counts an accepted operation 21 as its single ticks: its premise is read after
+//! each, and a part may begin or end between them."
 
 mod common;
 
@@ -89,8 +91,19 @@ impl Watch {
         }
     }
 
-    /// Makes a step and looks at every rank.
+    /// Makes a step, an accepted operation 21 by its single ticks, and looks at every rank after
+    /// each. Where the single ticks lead is where the one step leads.
     fn step(&mut self, board: &mut Board, record: &[u8; 12]) {
+        let singles = board.singles(record);
+        let mut at_once = board.clone();
+        at_once.ask(record);
+        for single in &singles {
+            self.look(board, single);
+        }
+        assert!(board.table == at_once.table, "{record:?}");
+    }
+
+    fn look(&mut self, board: &mut Board, record: &[u8; 12]) {
         let before = board.clone();
         let (code, _) = board.ask(record);
         let accepted_tick = record[0] == op::TICK && code == 0;
@@ -148,15 +161,24 @@ impl Watch {
     }
 }
 
-/// A run in which a record is a tick `ticks` times in 32.
+/// A run in which a record is a tick, or some at once, `ticks` times in 32.
 fn run(watch: &mut Watch, rng: &mut Rng, board: &mut Board, steps: usize, ticks: usize) {
     for _ in 0..steps {
         let record = match rng.below(32) {
-            part if part < ticks => tick(),
+            part if part < ticks => some_ticks(rng),
             part if part == 31 && board.lock() > 0 => unlock(),
-            _ => random_record(rng, &board.table),
+            _ => of_few_ticks(random_record(rng, &board.table)),
         };
         watch.step(board, &record);
+    }
+}
+
+/// A tick; of every 16 one is an operation 21 with a few.
+fn some_ticks(rng: &mut Rng) -> [u8; 12] {
+    let few = rng.between(1, 12);
+    match rng.below(16) {
+        0 => ticks(few),
+        _ => tick(),
     }
 }
 
@@ -203,4 +225,21 @@ fn the_longest_and_the_shortest_turn_are_fair() {
         watch.step(&mut board, &tick());
     }
     assert_eq!(watch.windows.of_two_or_more, 50_001);
+}
+
+/// The cutter's delay ends in the fourth of six ticks at once, and the cutter has the last two; it
+/// waits again, and seven more ticks come at once. Of the 11 charges to the lanes, of turns 2 and 3,
+/// every five in a row are a part: four parts begin inside the first six ticks and end inside the
+/// seven, with the cutter's ticks between.
+#[test]
+fn parts_begin_and_end_inside_ticks_at_once() {
+    let mut board = Board::fresh().after(create(9, 7, 1));
+    board.blocked(delay(4));
+    board = board.after(create(1, 5, 2)).after(create(2, 5, 3));
+    let mut watch = Watch::new(Yields::All);
+    for record in [ticks(6), delay(50), ticks(7)] {
+        watch.step(&mut board, &record);
+    }
+    assert_eq!(watch.windows.of_two_or_more, 7);
+    assert!(watch.windows.broken_off >= 4, "{:?}", watch.windows);
 }

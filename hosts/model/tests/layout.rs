@@ -33,7 +33,7 @@ fn a_record_has_its_fields_in_order() {
 }
 
 /// "Numbers 0 to 16 are 001's call list." The list is 001's table of calls, in its order; then
-/// come Lock, Unlock, Tick and Outcome.
+/// come Lock, Unlock, Tick and Outcome, and order 7's Ticks and Nearest.
 #[test]
 fn the_operations_have_their_numbers() {
     let in_order = [
@@ -58,6 +58,8 @@ fn the_operations_have_their_numbers() {
         unlock(),
         tick(),
         outcome_of(0),
+        ticks(0),
+        nearest(),
     ];
     for (number, record) in in_order.into_iter().enumerate() {
         assert_eq!(usize::from(record[0]), number);

@@ -11,7 +11,7 @@ use model::{door, fresh, list, random_line, random_listing, random_requests, wri
 use model::{random_record, record, Listed, Rng, Written, AREA, RECORD};
 
 /// Each operation with the fields that it uses, as a record and as a line.
-fn every_operation() -> [([u8; RECORD], &'static str); 21] {
+fn every_operation() -> [([u8; RECORD], &'static str); 23] {
     [
         (yield_turn(), "0"),
         (create(5, 6, 8), "1 5 6 8"),
@@ -34,6 +34,8 @@ fn every_operation() -> [([u8; RECORD], &'static str); 21] {
         (unlock(), "18"),
         (tick(), "19"),
         (outcome_of(255), "20 255"),
+        (ticks(99_999), "21 99999"),
+        (nearest(), "22"),
     ]
 }
 
@@ -131,7 +133,7 @@ fn bad_record(record: &[u8]) {
 
 #[test]
 fn the_lister_stops_at_the_first_record_that_minus_8_refuses() {
-    for operation in 21..=255 {
+    for operation in 23..=255 {
         bad_record(&record(operation, 0, 0, 0, 0));
     }
     for (record, _) in every_operation() {
@@ -142,6 +144,9 @@ fn the_lister_stops_at_the_first_record_that_minus_8_refuses() {
     let unused = [
         record(17, 1, 0, 0, 0),
         record(20, 0, 1, 0, 0),
+        record(21, 1, 0, 1, 0),
+        record(21, 0, 0, 1, 1),
+        record(22, 0, 0, 1, 0),
         record(9, 0, 0, 1, 0),
         record(15, 0, 0, 0, 1),
         record(10, 0, 0, 0, 1 << 31),

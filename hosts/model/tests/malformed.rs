@@ -6,8 +6,8 @@ mod common;
 use common::*;
 use model::{door, fresh, record, sound, AREA, TABLE};
 
-/// The used fields of the operations 0 to 20, as document 01's table writes them.
-const USES: [&str; 21] = [
+/// The used fields of the operations, as document 01's table writes them; 21 and 22 are order 7's.
+const USES: [&str; 23] = [
     "",
     "object priority number",
     "object",
@@ -29,6 +29,8 @@ const USES: [&str; 21] = [
     "",
     "",
     "object",
+    "number",
+    "",
 ];
 
 /// The bytes of each field.
@@ -41,7 +43,7 @@ const FIELDS: [(&str, std::ops::Range<usize>); 4] = [
 
 #[test]
 fn an_unused_field_must_be_zero_and_a_used_one_need_not() {
-    for operation in 0..=20u8 {
+    for operation in 0..=22u8 {
         let uses: Vec<&str> = USES[usize::from(operation)].split_whitespace().collect();
         for (field, bytes) in FIELDS {
             for byte in bytes {
@@ -58,7 +60,7 @@ fn an_unused_field_must_be_zero_and_a_used_one_need_not() {
 
 #[test]
 fn byte_3_must_be_zero() {
-    for operation in 0..=20 {
+    for operation in 0..=22 {
         for value in 1..=255 {
             let mut record = record(operation, 1, 1, 1, 1);
             record[3] = value;
@@ -72,12 +74,12 @@ fn byte_3_must_be_zero() {
 }
 
 #[test]
-fn operations_above_20_are_refused() {
-    for operation in 21..=255 {
+fn operations_above_22_are_refused() {
+    for operation in 23..=255 {
         busy().refused(record(operation, 0, 0, 0, 0), -8);
         busy().refused(record(operation, 1, 5, 3, 0), -8);
     }
-    for operation in 0..=20 {
+    for operation in 0..=22 {
         assert_ne!(busy().ask(&record(operation, 0, 0, 0, 0)).0, -8);
     }
 }
@@ -85,14 +87,14 @@ fn operations_above_20_are_refused() {
 #[test]
 fn records_of_any_length_but_12_are_refused() {
     for length in (0..=16).chain([24, 600]) {
-        for operation in [0, 17, 19, 20, 21, 255] {
+        for operation in [0, 17, 19, 20, 21, 23, 255] {
             let mut record = vec![0; length];
             if let Some(first) = record.first_mut() {
                 *first = operation;
             }
             let (code, value) = busy().ask(&record);
             assert_eq!(value, 0);
-            let malformed = length != 12 || operation > 20;
+            let malformed = length != 12 || operation > 22;
             assert_eq!(
                 code == -8,
                 malformed,

@@ -4,6 +4,7 @@
 
 mod common;
 
+use common::steps::{steps, Step};
 use common::*;
 use model::{operation as op, random_trace, report, Rng};
 
@@ -21,6 +22,10 @@ enum Misread {
     ChargedToTheNext,
     ChargedUnderLock,
     ChargedWhereRefused,
+    /// Ticks at once are charged as one.
+    TicksAsOne,
+    /// Ticks at once are charged to the thread that ran before all of them.
+    TicksToTheFirst,
     /// Charges go on, from one life of a thread to its next.
     CreateKeeps,
     /// Charges begin anew, at other steps than an accepted Create.
@@ -45,10 +50,12 @@ enum Misread {
 
 use Misread::*;
 
-const EACH: [Misread; 15] = [
+const EACH: [Misread; 17] = [
     ChargedToTheNext,
     ChargedUnderLock,
     ChargedWhereRefused,
+    TicksAsOne,
+    TicksToTheFirst,
     CreateKeeps,
     RefusedCreateResets,
     SetResets,
@@ -62,36 +69,6 @@ const EACH: [Misread; 15] = [
     SettingsOfTheCreation,
     DeletedHasLine,
 ];
-
-/// A step, with who ran, of what priority, and the lock before it, and who ran after it.
-struct Step {
-    record: [u8; 12],
-    code: i32,
-    ran: usize,
-    priority: u8,
-    lock: u8,
-    runs: usize,
-}
-
-/// The steps of a trace from a fresh table on, and where they lead.
-fn steps(trace: &[u8]) -> (Vec<Step>, Board) {
-    let mut board = Board::fresh();
-    let step = |bytes: &[u8]| {
-        let record: [u8; 12] = bytes.try_into().expect("a whole record");
-        let (ran, lock) = (board.running(), board.lock());
-        let priority = board.seen(ran).priority;
-        let (code, _) = board.ask(&record);
-        Step {
-            record,
-            code,
-            ran,
-            priority,
-            lock,
-            runs: board.running(),
-        }
-    };
-    (trace.chunks_exact(12).map(step).collect(), board)
-}
 
 /// A thread at the end.
 #[derive(Clone, Copy, Default)]
@@ -134,11 +111,12 @@ fn see(misread: Misread, step: &Step, lanes: &mut [Lane; 16]) {
         op::TICK => {
             let counts =
                 (accepted || is(ChargedWhereRefused)) && (step.lock == 0 || is(ChargedUnderLock));
-            let whom = if is(ChargedToTheNext) {
-                step.runs
-            } else {
-                step.ran
+            let whom = match misread {
+                ChargedToTheNext => step.runs,
+                TicksToTheFirst => step.first,
+                _ => step.ran,
             };
+            let counts = counts && (step.before == 0 || !is(TicksAsOne));
             lanes[whom].charged += i128::from(counts);
         }
         op::CREATE if accepted => {
@@ -215,7 +193,10 @@ fn traces() -> impl Iterator<Item = Vec<u8>> {
     (0..TRACES).map(|seed| {
         let mut rng = Rng::new(700_000 + seed);
         let records = rng.below(600);
-        random_trace(&mut rng, records)
+        let trace = random_trace(&mut rng, records);
+        let whole = |bytes: &[u8]| bytes.try_into().expect("a whole record");
+        let records = trace.chunks_exact(12).map(whole);
+        records.flat_map(of_few_ticks).collect()
     })
 }
 
@@ -278,8 +259,8 @@ fn the_lags_of_a_ranks_ready_threads_add_up_to_0() {
 #[test]
 fn no_more_is_charged_than_there_are_ticks() {
     for trace in traces() {
-        let is_tick = |record: &&[u8]| record[0] == op::TICK;
-        let ticks = trace.chunks_exact(12).filter(is_tick).count();
+        let is_tick = |step: &&Step| step.record[0] == op::TICK;
+        let ticks = steps(&trace).0.iter().filter(is_tick).count();
         let charges = lines(&report(&trace)).into_iter().map(|line| line.1);
         assert!(charges.clone().all(|charged| charged >= 0));
         assert!(charges.sum::<i128>() <= ticks as i128);

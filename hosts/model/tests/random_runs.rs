@@ -9,8 +9,8 @@ use std::collections::BTreeSet;
 use common::*;
 use model::{at, random_record, random_sound, wait, word, Rng};
 
-/// The codes of each operation in document 01's order, done and blocked included.
-const CODES: [&[i32]; 21] = [
+/// The codes of each operation in document 01's order, done and blocked included, and order 7's.
+const CODES: [&[i32]; 23] = [
     &[0],
     &[0, -2, -3, -1],
     &[0, -1, -5],
@@ -32,6 +32,8 @@ const CODES: [&[i32]; 21] = [
     &[0, -5],
     &[0],
     &[1, 0, -5, -1],
+    &[0, -3],
+    &[0],
 ];
 
 /// The pairs of operation and code that occur.
@@ -40,7 +42,7 @@ type Pairs = BTreeSet<(u8, i32)>;
 fn wanted() -> Pairs {
     let rows = CODES.iter().zip(0u8..);
     let pairs = rows.flat_map(|(codes, op)| codes.iter().map(move |&code| (op, code)));
-    pairs.chain((0..=20).map(|op| (op, -8))).collect()
+    pairs.chain((0..=22).map(|op| (op, -8))).collect()
 }
 
 /// The first of the highest non-empty ready line, read off the bytes.
@@ -58,6 +60,13 @@ fn first_of_the_highest(board: &Board) -> usize {
 fn already_waiting(board: &Board, kind: u8, object: u8) -> u32 {
     let waits = |i: &usize| board.record(*i)[3..5] == [kind, object];
     (0..16).filter(waits).count() as u32
+}
+
+/// Order 7's least number of ticks after which a timed wait ends, read off the bytes.
+fn left_of_the_nearest(board: &Board) -> u32 {
+    let waits = (0..16).filter(|&i| board.record(i)[3] != 0);
+    let left = waits.map(|i| word(board.record(i), 12));
+    left.filter(|&left| left > 0).min().unwrap_or(0)
 }
 
 /// One step and what holds after it.
@@ -80,11 +89,12 @@ fn step(board: &mut Board, record: &[u8; 12], pairs: &mut Pairs) {
         (8, 1) => already_waiting(&before, wait::SEND, record[1]),
         (13, 1) => already_waiting(&before, wait::SEMAPHORE, record[1]),
         (10 | 13 | 20, 0) => value,
+        (22, 0) => left_of_the_nearest(&before),
         _ => 0,
     };
     assert_eq!(value, named, "the value is 0 unless named\n{}", case());
     check_changes(&before, board, record, code, &case);
-    if record[0] <= 20 {
+    if record[0] <= 22 {
         pairs.insert((record[0], code));
     } else {
         assert_eq!(code, -8, "{}", case());
@@ -202,7 +212,7 @@ fn random_records_are_well_mixed() {
         refused += u32::from(code < 0);
         malformed += u32::from(code == -8);
     }
-    for (operation, &times) in asked[..=20].iter().enumerate() {
+    for (operation, &times) in asked[..=22].iter().enumerate() {
         assert!(times > 1_500, "operation {operation}: {times} times");
     }
     assert!((500..3_000).contains(&malformed), "{malformed} malformed");

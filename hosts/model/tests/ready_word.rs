@@ -95,6 +95,9 @@ fn on_busy() -> Rows {
         (lock(), &[0, 4, 5]),
         (tick(), &[0, 4, 5]),
         (outcome_of(1), &[0, 4, 5]),
+        (ticks(49), &[0, 4, 5]),
+        (ticks(50), &[0, 4, 5, 20]),
+        (nearest(), &[0, 4, 5]),
     ]
 }
 
@@ -156,7 +159,7 @@ fn every_operation_keeps_it_true() {
             operations.insert(record[0]);
         }
     }
-    assert!(operations.into_iter().eq(0..=20));
+    assert!(operations.into_iter().eq(0..=22));
 }
 
 /// "exactly when ready line p has a member": the first of three goes, then the last, then the one

@@ -70,4 +70,7 @@ fn malformed_is_tested_before_every_other_refusal_of_the_operation() {
     board.refused(record(op::MAKE, 8, 0, 100, 1), -8);
     board.refused(record(op::UNLOCK, 0, 0, 0, 1), -8);
     board.refused(record(op::OUTCOME, 16, 0, 1, 0), -8);
+    board.refused(record(op::TICKS, 1, 0, 0, 0), -8);
+    board.refused(record(op::TICKS, 0, 0, 100_000, 1), -8);
+    board.refused(record(op::NEAREST, 0, 0, 1, 0), -8);
 }

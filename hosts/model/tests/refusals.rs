@@ -28,9 +28,21 @@ fn all_blocked<const N: usize>(board: &Board, ahead: u32, records: [[u8; 12]; N]
 }
 
 #[test]
-fn yield_and_tick_are_never_refused() {
+fn yield_tick_and_nearest_are_never_refused() {
     for board in [Board::fresh(), busy(), busy_locked(), busy_init()] {
         all_done(&board, [yield_turn(), tick()]);
+        assert_eq!(board.clone().ask(&nearest()).0, 0);
+    }
+}
+
+/// Order 7: "−3 for 21 with 0 or above 99,999", and for nothing else.
+#[test]
+fn ticks() {
+    let ticks = common::ticks;
+    for board in [Board::fresh(), busy(), busy_locked(), busy_init()] {
+        all_refused(&board, -3, [ticks(0), ticks(100_000), ticks(u32::MAX)]);
+        all_refused(&board, -3, [ticks(1 << 17 | 1), ticks(1 << 31 | 1)]);
+        all_done(&board, [ticks(1), ticks(99_999)]);
     }
 }
 

@@ -53,6 +53,33 @@ fn a_tick_under_lock_is_charged_to_nobody() {
     case.gives(&["0 0 0", "1 3 18", "2 0 -18"]);
 }
 
+/// Order 7: "Demand 3 counts an accepted operation 21 as its single ticks". The turns are 2 and 3: of
+/// 4 ticks at once 2 × 5 − 2 × 4 = 2, and 2 × 5 − 3 × 4 = −2; those under lock are nobody's.
+#[test]
+fn ticks_at_once_are_charged_one_by_one() {
+    let case = Case::lanes(&[2, 3]).done(ticks(4));
+    let case = case.gives(&["0 0 0", "1 2 2", "2 2 -2"]);
+    let case = case.done(lock()).done(ticks(99_999)).done(unlock());
+    let case = case.gives(&["0 0 0", "1 2 2", "2 2 -2"]);
+    let case = case.done(ticks(1)).gives(&["0 0 0", "1 2 0", "2 3 0"]);
+    // 19,999 rounds and 4 ticks more
+    let case = case.done(ticks(99_999));
+    case.gives(&["0 0 0", "1 40002 2", "2 60002 -2"]);
+    // the ticks to the end of a delay are Init's, and the others the thread's that wakes
+    let case = Case::fresh().done(create(1, 5, 3)).put(delay(4), 1);
+    case.done(ticks(10)).gives(&["0 4 0", "1 6 0"]);
+}
+
+#[test]
+fn refused_ticks_at_once_are_charged_to_nobody() {
+    let mut case = Case::lanes(&[6, 6]).done(ticks(3));
+    for number in [0, 100_000, u32::MAX] {
+        case = case.put(ticks(number), code::TURN);
+    }
+    case = case.put(record(op::TICKS, 1, 0, 3, 0), code::MALFORMED);
+    case.gives(&["0 0 0", "1 3 18", "2 0 -18"]);
+}
+
 #[test]
 fn a_refused_tick_is_charged_to_nobody() {
     let mut case = Case::lanes(&[6, 6]).ticks(3);

@@ -1,7 +1,8 @@
 //! Order 5: "Where demand 3 covers the run from the creation of the last of them, and all earlier
 //! charges to them are zero, and the count is a whole number of rounds, each of their lags is 0".
 //! Here the lanes have one rank, a cutter outranks them and comes and goes, the lock goes on and
-//! off, and ticks are refused; no lane waits, yields, is set or is deleted.
+//! off, ticks come one by one or some at once, and are refused; no lane waits, yields, is set or is
+//! deleted.
 
 mod common;
 
@@ -45,11 +46,13 @@ impl Run {
     }
 
     fn put(&mut self, record: [u8; 12]) {
-        let (running, lock) = (self.board.running(), self.board.lock());
-        let (code, _) = self.board.ask(&record);
-        let is_lane = (1..=self.turns.len()).contains(&running);
-        let charged = record[0] == op::TICK && code == 0 && lock == 0 && is_lane;
-        self.count += u32::from(charged);
+        for single in self.board.singles(&record) {
+            let (running, lock) = (self.board.running(), self.board.lock());
+            let (code, _) = self.board.ask(&single);
+            let is_lane = (1..=self.turns.len()).contains(&running);
+            let charged = single[0] == op::TICK && code == 0 && lock == 0 && is_lane;
+            self.count += u32::from(charged);
+        }
         self.trace.extend(record);
     }
 
@@ -66,6 +69,7 @@ impl Run {
             5 | 6 => unlock(),
             7 if cuts => delay(few),
             8 if cuts => yield_turn(),
+            9 | 10 => ticks(few),
             _ => tick(),
         };
         self.put(record);

@@ -10,7 +10,7 @@ use std::collections::BTreeSet;
 const CHARACTERS: &[u8] = b"0123456789 \n\t\x0b\x1f!/:\xb0\x80\xff\x00\r+-.,ax";
 
 /// What is put into records: each side of the last operation, and of a byte's boundaries.
-const BYTES: [u8; 7] = [0, 1, 20, 21, 127, 128, 255];
+const BYTES: [u8; 8] = [0, 1, 21, 22, 23, 127, 128, 255];
 
 /// What happened to a character.
 #[derive(Clone, Copy, Debug, PartialEq, Eq, PartialOrd, Ord)]

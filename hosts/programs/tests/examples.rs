@@ -131,6 +131,45 @@ fn a_whole_roll_at_once() {
     shows("examples/README.md", heading, "examples/roll.listing");
 }
 
+/// The lines that are shown of the battery printer's event are those of its listing, each with what the trace prints of it: an answer begins
+/// with its line's number.
+#[test]
+fn the_battery_printers_event() {
+    let (trace, listing) = ("examples/battery.trace", "examples/battery.listing");
+    makes(Program::List, trace, listing);
+    makes(Program::Write, listing, trace);
+    let printed = Program::Trace.fed_file(&top().join(trace)).stdout;
+    let printed = String::from_utf8_lossy(&printed);
+    let (answers, listing) = (printed.lines().collect::<Vec<_>>(), page(listing));
+    let lines: Vec<&str> = listing.lines().collect();
+    let page = page("examples/README.md");
+    let table = section(&page, "A battery printer asleep");
+    let (shown, answered) = (column(table, 0), column(table, 1));
+    assert!(shown.lines().count() > 20, "{shown}");
+    for (line, answer) in shown.lines().zip(answered.lines()) {
+        let number = number_behind(answer, "");
+        assert_eq!((lines[number], answers[number]), (line, answer));
+    }
+    assert!(table.contains(&format!("the {} requests", lines.len())));
+}
+
+#[test]
+fn the_report_of_the_battery_printers_event() {
+    let records = fs::read(top().join("examples/battery.trace")).expect("the example");
+    let heading = "The report of the battery printer";
+    reports("examples/README.md", heading, 0, &report(&records));
+}
+
+/// The page shows what the battery printer said of its wake-ups, which `hosts/printer/check.sh` holds to the printer.
+#[test]
+fn the_wake_ups_of_the_battery_printer() {
+    let page_text = page("examples/README.md");
+    let shown = section(&page_text, "A battery printer asleep");
+    for line in page("examples/battery.wakes").lines() {
+        assert!(shown.contains(&format!("\n    {line}\n")), "{line}");
+    }
+}
+
 /// The report of these records, of which nothing is said on standard error.
 fn report(records: &[u8]) -> String {
     let output = Program::Report.fed(vec![records.to_vec()]);

@@ -31,7 +31,7 @@ fn a_line_comes_out_as_its_record_comes_in() {
         program.put(record);
         program.gives(&list(record).text);
     }
-    program.put(&[21; RECORD]);
+    program.put(&[23; RECORD]);
     program.ends("bad record 200\n");
 }
 
@@ -95,7 +95,16 @@ fn a_line_of_41_characters_ends_the_writer_although_no_line_feed_comes() {
 
 #[test]
 fn a_bad_line_ends_the_writer_although_the_pipe_stays_open() {
-    let lines: [&[u8]; 6] = [b"\n", b"21\n", b"19 \n", b" 19\n", b"20 256\n", b"19\r\n"];
+    let lines: [&[u8]; 8] = [
+        b"\n",
+        b"21\n",
+        b"22 0\n",
+        b"23\n",
+        b"19 \n",
+        b" 19\n",
+        b"20 256\n",
+        b"19\r\n",
+    ];
     for line in lines {
         ends_at(3, &[line]);
         ends_at(3, &[&[line, b"19\n"].concat()]);

@@ -1,15 +1,17 @@
 //! What the tests share: a board that puts requests to the door and checks what holds for every
 //! answer, the requests by their names, a busy board with a thread in every state, one on which
-//! threads wait on a semaphore, and cases of the report.
+//! threads wait on a semaphore, cases of the report, and the steps of a trace.
 
 #![allow(dead_code)]
 
 pub mod case;
 mod requests;
+pub mod steps;
 
 pub use requests::*;
 
-use model::{at, code, door, fresh, show, show_record, sound, word, AREA, TABLE, WIDTH};
+use model::{at, code, door, fresh, operation as op, show, show_record, sound, word};
+use model::{AREA, TABLE, WIDTH};
 
 /// What the answer area holds before a call; the door writes all of it or none.
 pub const UNWRITTEN: [u8; AREA] = [0xA5; AREA];
@@ -111,6 +113,16 @@ impl Board {
     pub fn ticks(&mut self, number: usize) {
         for _ in 0..number {
             self.done(tick());
+        }
+    }
+
+    /// What demand 3 counts of this record. Order 7: "Demand 3 counts an accepted operation 21 as
+    /// its single ticks"; every other record counts as itself.
+    pub fn singles(&self, record: &[u8; 12]) -> Vec<[u8; 12]> {
+        let is_ticks = record[0] == op::TICKS && self.clone().ask(record).0 == code::DONE;
+        match is_ticks {
+            true => vec![tick(); word(record, 4) as usize],
+            false => vec![*record],
         }
     }
 

@@ -1,6 +1,6 @@
 //! The requests by their names.
 
-use model::{operation as op, record};
+use model::{operation as op, record, word};
 
 pub fn yield_turn() -> [u8; 12] {
     record(op::YIELD, 0, 0, 0, 0)
@@ -84,4 +84,22 @@ pub fn tick() -> [u8; 12] {
 
 pub fn outcome_of(i: u8) -> [u8; 12] {
     record(op::OUTCOME, i, 0, 0, 0)
+}
+
+pub fn ticks(number: u32) -> [u8; 12] {
+    record(op::TICKS, 0, 0, number, 0)
+}
+
+/// The record, where it asks for no more ticks at once than 400, and else for some of them: one by
+/// one they take long.
+pub fn of_few_ticks(record: [u8; 12]) -> [u8; 12] {
+    let number = word(&record, 4);
+    match record[0] == op::TICKS && (401..100_000).contains(&number) {
+        true => ticks(number % 400 + 1),
+        false => record,
+    }
+}
+
+pub fn nearest() -> [u8; 12] {
+    record(op::NEAREST, 0, 0, 0, 0)
 }
