@@ -49,10 +49,11 @@ unfolding Quiet
 quiet-of n ts i w h =
     let l : timeLeft (at ts i .wait) ≡ counterOf (at ts i .wait) = rw w in
     let x = nearest-low ts i (omega (arith, l)) in
-    rw (ne-eqb (nearest ts) 0 (omega (arith, x .0))) (omega (arith, x .0, x .1, l))
+    if-case (λ k. k < counterOf (at ts i .wait)) (leb n 1) (λ e. h) (λ e.
+    rw (ne-eqb (nearest ts) 0 (omega (arith, x .0))) (omega (arith, x .0, x .1, l)))
 
 pub quiet-most : (n : ℕ) (ts : List Thread) → quietOf n ts ≤ n
-quiet-most n ts = if-case (λ k. k ≤ n) (eqb (nearest ts) 0) (λ e. omega arith) (λ e. omega arith)
+quiet-most n ts = if-case (λ k. k ≤ n) (leb n 1) (λ e. omega arith) (λ e. if-case (λ k. k ≤ n) (eqb (nearest ts) 0) (λ d. omega arith) (λ d. omega arith))
 
 -- A LEAP
 

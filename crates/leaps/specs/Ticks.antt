@@ -29,9 +29,12 @@ ran n s = withThreads (map (later n) (edit (s .running) (withCounter (counterOf 
 
 -- LEAPS
 
--- of n ticks, those before the one in which a wait ends
+-- of n ticks, those before the one in which a wait ends; none of a single tick, for which it is not worth looking
 abbrev pub quietOf : ℕ → List Thread → ℕ
-quietOf n ts = let w = nearest ts in if eqb w 0 then n else min n (pred w)
+quietOf n ts =
+    let w = nearest ts in
+    if leb n 1 then 0 else
+    if eqb w 0 then n else min n (pred w)
 
 -- some of n ticks, at least one, done at once: how many, how many whole rounds of the rank that runs they are (0 if they are none), and what
 -- they leave
@@ -65,7 +68,7 @@ leapUnlocked q s =
     if leb left 1 then tickOf s else
     turnOf (min q (pred left)) s
 
--- a wait that ends does so in a tick by itself; under lock only the waits go on
+-- a wait that ends does so in a tick by itself, and so is the last tick; under lock only the waits go on
 unfoldable pub leap : ℕ → State → Leap
 leap n s =
     let quiet = quietOf n (s .threads) in

@@ -91,11 +91,14 @@ pub fn nearest(t: &[u8]) -> Answer
 
 // WHERE NO WAIT ENDS
 
-// Of `n` ticks, those before the one in which a wait ends.
+// Of `n` ticks, those before the one in which a wait ends; none of a single tick, for which it is not worth looking.
 fn quiet_of(t: &[u8], n: u32) -> u32
     requires { ⌜ length (now t) ≡ tableLength printer ⌝ }
     ensures { λ r. ⌜ ((s : State) → decode printer (now (t .entry)) ≡ s → r ≡ quietOf n (s .threads)) ⌝ }
 {
+    if n <= 1 {
+        return 0;
+    }
     let w = nearest_end(t);
     if w == 0 {
         return n;

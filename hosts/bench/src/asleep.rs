@@ -1,9 +1,11 @@
 //! Ticks, operation 21, by the most there are at once, beside as many single ticks. Single ticks are
-//! counted here and there in the same run: 99,999 of them one by one would take minutes.
+//! counted here and there in the same run: 99,999 of them one by one would take minutes. `few` has
+//! Ticks by small numbers.
 
 use model::{fresh, operation as op, record, LONGEST, RECORD, TABLE};
 
 use crate::cases::{Case, Group};
+use crate::few;
 use crate::measure::alone;
 use crate::worst::{after, ranked};
 
@@ -15,9 +17,9 @@ const PLACES: u32 = 11;
 const QUIET: f64 = 100.;
 
 /// A table, what it is, and whether no wait ends in the ticks.
-struct Asleep {
-    name: &'static str,
-    table: [u8; TABLE],
+pub struct Asleep {
+    pub name: &'static str,
+    pub table: [u8; TABLE],
     quiet: bool,
 }
 
@@ -48,7 +50,7 @@ fn waits() -> [u8; TABLE] {
     (1..16).fold(fresh(), wait)
 }
 
-fn tables() -> [Asleep; 5] {
+pub fn tables() -> [Asleep; 5] {
     let mixed = ranked(|i| u32::from(i) * 37 % 11 + 1);
     let locked = after(mixed, record(op::LOCK, 0, 0, 0, 0));
     let asleep = |name, table, quiet| Asleep { name, table, quiet };
@@ -65,35 +67,36 @@ fn tables() -> [Asleep; 5] {
     ]
 }
 
-/// The one call, as a group.
-fn at_once(asleep: &Asleep) -> Group {
-    let (table, record) = (asleep.table, ticks(LONGEST));
+/// One call of Ticks by this number, as a group.
+pub fn at_once(table: [u8; TABLE], number: u32) -> Group {
+    let record = ticks(number);
     Group {
-        name: asleep.name.to_string(),
+        name: format!("Ticks by {number}"),
         cases: vec![Case { table, record }],
     }
 }
 
-/// Single ticks of the same run, as a group: some in a row at each of several places.
-fn single(asleep: &Asleep) -> Group {
-    let mut table = asleep.table;
+/// So many single ticks at each of so many places of the same run, as a group.
+pub fn single(mut table: [u8; TABLE], in_a_row: u32, places: u32) -> Group {
     let mut cases = Vec::new();
-    for _ in 0..PLACES {
-        for _ in 0..IN_A_ROW {
+    for _ in 0..places {
+        for _ in 0..in_a_row {
             let record = tick();
             cases.push(Case { table, record });
             table = after(table, record);
         }
-        table = after(table, ticks(LONGEST / PLACES - IN_A_ROW));
+        table = after(table, ticks(LONGEST / places - in_a_row));
     }
-    let name = asleep.name.to_string();
+    let name = "single ticks".to_string();
     Group { name, cases }
 }
 
 fn measured() -> Vec<Row> {
     let tables = tables();
-    let each_call = alone(&tables.each_ref().map(at_once));
-    let each_tick = alone(&tables.each_ref().map(single));
+    let each =
+        |group: fn([u8; TABLE]) -> Group| alone(&tables.each_ref().map(|of| group(of.table)));
+    let each_call = each(|table| at_once(table, LONGEST));
+    let each_tick = each(|table| single(table, IN_A_ROW, PLACES));
     let rows = tables.iter().zip(each_call).zip(each_tick);
     let row = |((asleep, at_once), single): ((&Asleep, f64), f64)| Row {
         name: asleep.name,
@@ -131,11 +134,13 @@ pub fn report() -> Vec<String> {
         println!("| {name} | {at_once:.0} | {single:.0} | {share:.1} | {most:.0} | {verdict} |");
     }
     println!();
+    let mut faults = few::report();
     let over = rows.iter().filter(|row| row.at_once > row.most);
     let fault = |row: &Row| {
         let Row { name, at_once, .. } = row;
         let most = row.most;
         format!("Ticks by {LONGEST}, {name}: {at_once:.0} instructions, and at most {most:.0} are accepted")
     };
-    over.map(fault).collect()
+    faults.extend(over.map(fault));
+    faults
 }

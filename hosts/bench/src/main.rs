@@ -8,6 +8,7 @@
 mod asleep;
 mod budget;
 mod cases;
+mod few;
 mod frames;
 mod measure;
 mod size;
