@@ -36,9 +36,6 @@ later-later m n t =
       | is e ↦ rw (e, waiting-counter (c - m) w, e, counter-is (c - m) w, two-counters (c - m - n) (c - m) w) (ap (λ k. withCounter k t) (omega arith))
     ]
 
-pub later-ready : (n : ℕ) (t : Thread) → isReady (later n t) ≡ isReady t
-later-ready n t = later-field isReady n t (ready-counter (counterOf (t .wait) - n) t)
-
 pub later-waiting : (n : ℕ) (t : Thread) → waiting (later n t .wait) ≡ waiting (t .wait)
 later-waiting n t = later-field (λ u. waiting (u .wait)) n t (waiting-counter (counterOf (t .wait) - n) (t .wait))
 
@@ -98,10 +95,6 @@ sound-next s u σ e = rw e at (kept s Ask.Tick σ)
 quiet-passed : (n : ℕ) (s : State) → Quiet (suc n) (s .threads) → Quiet n (passed 1 s .threads)
 unfolding passed
 quiet-passed n s q = quiet-next n (s .threads) (map (later 1) (s .threads)) (λ i w. map-at (s .threads) i (later 1) refl) q
-
-lock-passed : (n : ℕ) (s : State) → passed n s .lock ≡ s .lock
-unfolding passed
-lock-passed n s = refl
 
 pub locked-ticks : (n : ℕ) (s : State) → Sound s → s .lock ≢ 0 → Quiet n (s .threads) → ticks n s ≡ passed n s
 unfolding ticks passed

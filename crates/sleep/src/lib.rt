@@ -6,7 +6,7 @@ ghost use mathlib.Core.Path.{_≡_};
 ghost use Prim.Native.Nat.{_*_, _-_, _≤_, _<_, min};
 ghost use lib.ListN.{length};
 ghost use Rattle.rules.specs.Basic.{if_then_else_};
-ghost use Rattle.rules.specs.Board.{printer, tableLength, mostTicks};
+ghost use Rattle.rules.specs.Board.{printer, tableLength};
 ghost use Rattle.rules.specs.State.{State, at, edit, caller, counterOf};
 ghost use Rattle.rules.specs.Lines.{ready, inLine};
 ghost use Rattle.rules.specs.Table.{decode};
