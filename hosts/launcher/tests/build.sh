@@ -6,7 +6,7 @@ progress_is_a_line_for_each_crate() {
   anew
   ran trace "$example"
   ended 0 5
-  has "about 3 to 5 minutes on two free cores the first time, half a minute or more after a change" "$TRIED/err"
+  has "about 4 to 6 minutes on two free cores the first time, half a minute or more after a change" "$TRIED/err"
   like '1 of 4 crates proved, the last is rules; [0-9]+ s so far$' "$TRIED/err"
   has "4 of 4 crates proved, the last is trace" "$TRIED/err"
   has "454 0 0 1" "$TRIED/out"
