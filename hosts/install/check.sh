@@ -74,8 +74,9 @@ prints() {
   cmp "$away/shares" "$top/examples/two-lanes.shares" || stop "the installed kernel's printer says otherwise than examples/two-lanes.shares"
 }
 
-# ROOT: the pieces of C in docs/FIRMWARE.md are one file that compiles without a warning
+# ROOT: the pieces of C in docs/FIRMWARE.md are one file that compiles without a warning, and needs what they say is the firmware's own
 reads() {
+  local needed="clock_in_ticks interrupt_ask speltmallet_door start_timer stop_timer switch_context wake_after"
   checks=$((checks + 1))
   {
     printf '#include <stdint.h>\nvoid start(void);\nvoid switch_context(int from, int to);\n'
@@ -84,7 +85,7 @@ reads() {
   } >"$room/pieces.c"
   "$top/hosts/x86_64" cc -Wall -Wextra -Werror -O2 -mno-red-zone -I"$1/include" "$room/pieces.c" -o "$room/pieces.o" ||
     stop "the pieces of C in docs/FIRMWARE.md don't compile"
-  [ "$(nm -u "$room/pieces.o" | awk '{ print $2 }' | sort | tr '\n' ' ')" = "speltmallet_door switch_context " ] ||
+  [ "$(nm -u "$room/pieces.o" | awk '{ print $2 }' | sort | tr '\n' ' ')" = "$needed " ] ||
     stop "the pieces of C in docs/FIRMWARE.md need: $(nm -u "$room/pieces.o")"
 }
 
