@@ -79,13 +79,15 @@ pub fn at_once(table: [u8; TABLE], number: u32) -> Group {
 /// So many single ticks at each of so many places of the same run, as a group.
 pub fn single(mut table: [u8; TABLE], in_a_row: u32, places: u32) -> Group {
     let mut cases = Vec::new();
-    for _ in 0..places {
+    for place in 0..places {
+        if place > 0 {
+            table = after(table, ticks(LONGEST / places - in_a_row));
+        }
         for _ in 0..in_a_row {
             let record = tick();
             cases.push(Case { table, record });
             table = after(table, record);
         }
-        table = after(table, ticks(LONGEST / places - in_a_row));
     }
     let name = "single ticks".to_string();
     Group { name, cases }

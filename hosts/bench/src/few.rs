@@ -7,8 +7,8 @@ use crate::asleep::{at_once, single, tables};
 use crate::cases::Group;
 use crate::measure::alone;
 
-/// How many ticks, and how many times the instructions of as many single ones the call may take: one
-/// tick is as much to do either way, and is told by another operation.
+/// How many ticks, and how many times the instructions of as many single ones the call may take. One
+/// tick is as much to do either way, and its number is tested besides.
 const FEW: [(u32, f64); 4] = [(1, 1.05), (2, 1.), (3, 1.), (10, 1.)];
 
 /// The random tables beside those of `asleep`.
