@@ -2,7 +2,7 @@
 //! counted here and there in the same run: 99,999 of them one by one would take minutes. `few` has
 //! Ticks by small numbers.
 
-use model::{fresh, operation as op, record, LONGEST, RECORD, TABLE};
+use model::{at, fresh, operation as op, record, INIT, LONGEST, RECORD, TABLE};
 
 use crate::cases::{Case, Group};
 use crate::few;
@@ -50,17 +50,23 @@ fn waits() -> [u8; TABLE] {
     (1..16).fold(fresh(), wait)
 }
 
+/// Init and 15 others in one rank, all with a turn of 1: a sound table, which no run leaves, since
+/// Init can't be set.
+fn all_of_1() -> [u8; TABLE] {
+    let mut table = ranked(|_| 1);
+    for field in [at::TURN, at::COUNTER] {
+        table[at::thread(INIT) + field] = 1;
+    }
+    table
+}
+
 pub fn tables() -> [Asleep; 5] {
     let mixed = ranked(|i| u32::from(i) * 37 % 11 + 1);
     let locked = after(mixed, record(op::LOCK, 0, 0, 0, 0));
     let asleep = |name, table, quiet| Asleep { name, table, quiet };
     [
         asleep("Init alone", fresh(), true),
-        asleep(
-            "a rank of 16, turns of 1 beside Init's 10",
-            ranked(|_| 1),
-            true,
-        ),
+        asleep("a rank of 16, all turns of 1", all_of_1(), true),
         asleep("a rank of 16, turns of 1 to 11", mixed, true),
         asleep("the same under lock", locked, true),
         asleep("15 delays that end at different times", waits(), false),

@@ -4,8 +4,8 @@
 
 use door::boards::{after, busy, deepest, init_runs, locked};
 use door::{door, ticked, Hold, View};
-use model::{fresh, operation as op, random_sound, record, show, Rng};
-use model::{AREA, FOREVER, LONGEST, RECORD, TABLE, THREADS};
+use model::{at, fresh, operation as op, random_sound, record, show, Rng};
+use model::{AREA, FOREVER, INIT, LONGEST, RECORD, TABLE, THREADS};
 
 fn tick() -> [u8; RECORD] {
     record(op::TICK, 0, 0, 0, 0)
@@ -60,6 +60,15 @@ fn rank_of_16(turn: impl Fn(u8) -> u32) -> [u8; TABLE] {
     after(fresh(), &created)
 }
 
+/// Init and 15 others in one rank, all with a turn of 1: a sound table, which no run leaves.
+fn all_of_1() -> [u8; TABLE] {
+    let mut table = after(rank_of_16(|_| 1), &[(record(op::YIELD, 0, 0, 0, 0), 0)]);
+    for field in [at::TURN, at::COUNTER] {
+        table[at::thread(INIT) + field] = 1;
+    }
+    table
+}
+
 /// 15 threads of a few ranks and turns, in waits of all kinds by these numbers; those that
 /// `suspended` names are suspended.
 fn waits(time: impl Fn(u8) -> u32, suspended: impl Fn(u8) -> bool) -> [u8; TABLE] {
@@ -99,6 +108,7 @@ fn quiet_boards() -> Vec<[u8; TABLE]> {
     let mut boards = vec![
         fresh(),
         rank_of_16(|_| 1),
+        all_of_1(),
         mixed,
         rank_of_16(|i| LONGEST - u32::from(i)),
         waits(u32::from, |_| false),
