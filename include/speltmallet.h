@@ -28,10 +28,16 @@ extern "C" {
 /* The project's version; the file VERSION has it too. From 0.7.0 on a blocked Send or Pend has a value: how many are ahead. From
  * 0.8.0 on units that Post hands to waiters don't count towards its limit. From 0.9.0 on a table holds the ready word: one that was
  * saved by a version before 0.9.0, or made fresh by its header, gets BAD_TABLE (-7). Make a fresh table, and set the printer up
- * anew. From 0.10.0 on there are Ticks and Nearest, operations 21 and 22, which BAD_RECORD (-8) refused before. */
-#define SPELTMALLET_VERSION "0.10.0"
+ * anew. From 0.10.0 on there are Ticks and Nearest, operations 21 and 22, which BAD_RECORD (-8) refused before.
+ *
+ * From 0.11.0 on Set, operation 3, is gone: it gets BAD_RECORD (-8), and SPELTMALLET_OP_SET is not declared. It is split into Set
+ * priority and Set turn, operations 23 and 24, which were refused before. Where one of the two settings changes, ask for that one
+ * alone. Where both change, Set turn and then Set priority leave the table that Set left, wherever Set was accepted: that is proved
+ * (crates/promises/specs/FormerSet.antt). They are two calls: where the priority is bad, Set turn has changed the turn by then, and
+ * a tick may come between them. */
+#define SPELTMALLET_VERSION "0.11.0"
 #define SPELTMALLET_VERSION_MAJOR 0
-#define SPELTMALLET_VERSION_MINOR 10
+#define SPELTMALLET_VERSION_MINOR 11
 #define SPELTMALLET_VERSION_PATCH 0
 
 /*
@@ -106,7 +112,7 @@ int32_t speltmallet_door(uint8_t *table, size_t table_len, const uint8_t *reques
 #define SPELTMALLET_BAD_OPERATION (-5) /* not now: as each operation says below */
 #define SPELTMALLET_BAD_SEMAPHORE (-6) /* above 7, or free (Make: in use) */
 #define SPELTMALLET_BAD_TABLE (-7) /* unsound, or the answer area is not 8 bytes */
-#define SPELTMALLET_BAD_RECORD (-8) /* not 12 bytes, operation above 22, byte 3 or an unused field not zero */
+#define SPELTMALLET_BAD_RECORD (-8) /* not 12 bytes, operation 3 or above 24, byte 3 or an unused field not zero */
 
 /*
  * Operations: the fields that each uses (the others are zero), then its refusals in the order in which they are tested. Before them
@@ -127,9 +133,7 @@ int32_t speltmallet_door(uint8_t *table, size_t table_len, const uint8_t *reques
  * -1 thread above 15, or free; -5 thread is Init, or runs under lock. */
 #define SPELTMALLET_OP_DELETE 2
 
-/* Set: object (thread), priority, number (turn).
- * -2 priority above 31; -3 turn 0 or above 99,999; -1 thread above 15, or free; -5 thread is Init. */
-#define SPELTMALLET_OP_SET 3
+/* No operation has the number 3, which was Set before 0.11.0. */
 
 /* Suspend: object (thread).
  * -1 thread above 15, or free; -4 already suspended; -5 thread is Init, or runs under lock. */
@@ -211,7 +215,17 @@ int32_t speltmallet_door(uint8_t *table, size_t table_len, const uint8_t *reques
  * where no wait is timed. The table stays as it is. While nobody but Init is ready, the timer may be stopped for so many ticks. */
 #define SPELTMALLET_OP_NEAREST 22
 
-#define SPELTMALLET_OPERATIONS 23
+/* Set priority: object (thread), priority.
+ * -2 priority above 31; -1 thread above 15, or free; -5 thread is Init. A ready thread goes to the tail of its new line with a full
+ * counter; of any other nothing but the priority changes. The same priority changes nothing. */
+#define SPELTMALLET_OP_SET_PRIORITY 23
+
+/* Set turn: object (thread), number (turn).
+ * -3 turn 0 or above 99,999; -1 thread above 15, or free; -5 thread is Init. A ready thread takes a full counter, also where the
+ * turn is the same or below what was left, and keeps its place; of any other nothing but the turn changes. */
+#define SPELTMALLET_OP_SET_TURN 24
+
+#define SPELTMALLET_OPERATIONS 25 /* the numbers of operations are below this */
 
 /* Where the fields of a request stand. */
 #define SPELTMALLET_REQUEST_OPERATION 0
@@ -347,13 +361,13 @@ SPELTMALLET_HELPER const char *speltmallet_code_name(int32_t code)
     return code > SPELTMALLET_BLOCKED || code < SPELTMALLET_BAD_RECORD ? "no code" : names[SPELTMALLET_BLOCKED - code];
 }
 
-/* The name of an operation: "Post from interrupt". */
+/* The name of an operation: "Post from interrupt". Of 3 and of others that are none it gives "no operation". */
 SPELTMALLET_HELPER const char *speltmallet_operation_name(uint8_t operation)
 {
     static const char *const names[SPELTMALLET_OPERATIONS] = {
-        "Yield", "Create", "Delete", "Set", "Suspend", "Resume", "Delay", "Cancel", "Send", "Send from interrupt", "Receive",
-        "Make semaphore", "Drop semaphore", "Pend", "Abort", "Post", "Post from interrupt", "Lock", "Unlock", "Tick", "Outcome",
-        "Ticks", "Nearest"
+        "Yield", "Create", "Delete", "no operation", "Suspend", "Resume", "Delay", "Cancel", "Send", "Send from interrupt",
+        "Receive", "Make semaphore", "Drop semaphore", "Pend", "Abort", "Post", "Post from interrupt", "Lock", "Unlock", "Tick",
+        "Outcome", "Ticks", "Nearest", "Set priority", "Set turn"
     };
 
     return operation < SPELTMALLET_OPERATIONS ? names[operation] : "no operation";

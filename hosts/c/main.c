@@ -1,7 +1,7 @@
 /*
  * The door from C, as the firmware calls it: a fresh table, document 01's example run, the values of answers, the ready word, many ticks
- * at once, what each sort of refusal leaves alone, and the header's helpers. It prints a line for each check that fails and ends with
- * status 1 if there is one.
+ * at once, a thread's settings, what each sort of refusal leaves alone, and the header's helpers. It prints a line for each check that
+ * fails and ends with status 1 if there is one.
  */
 #include "speltmallet.h"
 
@@ -100,6 +100,24 @@ static void asleep(void) {
     ask("Ticks by 2", SPELTMALLET_OP_TICKS, 0, 0, 2, 0, SPELTMALLET_DONE, 0, 2);
 }
 
+/* Thread 2 runs with a turn of 3. It gets a turn and a full counter, and then a priority below that of thread 1, and both back. */
+static void settings(void) {
+    const uint8_t *set = table + SPELTMALLET_THREAD(2);
+    ask("Set turn", SPELTMALLET_OP_SET_TURN, 2, 0, 7, 0, SPELTMALLET_DONE, 0, 2);
+    check("turn", (long)speltmallet_word(set + SPELTMALLET_THREAD_TURN), 7);
+    check("counter, full", (long)speltmallet_word(set + SPELTMALLET_THREAD_COUNTER), 7);
+    check("place, kept", set[SPELTMALLET_THREAD_PLACE], 1);
+    ask("Set priority, the same", SPELTMALLET_OP_SET_PRIORITY, 2, 5, 0, 0, SPELTMALLET_DONE, 0, 2);
+    check("place, kept again", set[SPELTMALLET_THREAD_PLACE], 1);
+    ask("Set priority", SPELTMALLET_OP_SET_PRIORITY, 2, 4, 0, 0, SPELTMALLET_DONE, 0, 1);
+    check("priority", set[SPELTMALLET_THREAD_PRIORITY], 4);
+    check_ready_word("ready word, priorities 4 and 5", 1 | 1 << 4 | 1 << 5);
+    ask("Set priority, behind the other", SPELTMALLET_OP_SET_PRIORITY, 2, 5, 0, 0, SPELTMALLET_DONE, 0, 1);
+    check("place, the tail", set[SPELTMALLET_THREAD_PLACE], 2);
+    ask("Set turn of one that does not run", SPELTMALLET_OP_SET_TURN, 2, 0, 3, 0, SPELTMALLET_DONE, 0, 1);
+    ask("Yield", SPELTMALLET_OP_YIELD, 0, 0, 0, 0, SPELTMALLET_DONE, 0, 2);
+}
+
 /* A call that must leave the table alone and, where `untouched` says so, the answer area too. */
 static void refused(const char *what, size_t table_len, size_t request_len, size_t answer_len, int32_t code, int untouched) {
     uint8_t before[SPELTMALLET_TABLE_BYTES];
@@ -124,14 +142,24 @@ static void refusals(void) {
     refused("Delete Init", 600, 12, 8, SPELTMALLET_BAD_OPERATION, 0);
     speltmallet_request(request, SPELTMALLET_OP_CREATE, 3, SPELTMALLET_TOP_PRIORITY + 1, 1, 0);
     refused("priority 32", 600, 12, 8, SPELTMALLET_BAD_PRIORITY, 0);
-    speltmallet_request(request, SPELTMALLET_OP_SET, 1, 0, SPELTMALLET_MOST_TICKS + 1, 0);
-    refused("turn 100,000", 600, 12, 8, SPELTMALLET_BAD_TICKS, 0);
+    speltmallet_request(request, SPELTMALLET_OP_SET_PRIORITY, 1, SPELTMALLET_TOP_PRIORITY + 1, 0, 0);
+    refused("Set priority to 32", 600, 12, 8, SPELTMALLET_BAD_PRIORITY, 0);
+    speltmallet_request(request, SPELTMALLET_OP_SET_PRIORITY, 0, 5, 0, 0);
+    refused("Set priority of Init", 600, 12, 8, SPELTMALLET_BAD_OPERATION, 0);
+    speltmallet_request(request, SPELTMALLET_OP_SET_TURN, 1, 0, SPELTMALLET_MOST_TICKS + 1, 0);
+    refused("Set turn to 100,000", 600, 12, 8, SPELTMALLET_BAD_TICKS, 0);
+    speltmallet_request(request, SPELTMALLET_OP_SET_TURN, 0, 0, 5, 0);
+    refused("Set turn of Init", 600, 12, 8, SPELTMALLET_BAD_OPERATION, 0);
+    speltmallet_request(request, SPELTMALLET_OP_SET_TURN, 1, 5, 5, 0);
+    refused("Set turn with a stale priority", 600, 12, 8, SPELTMALLET_BAD_RECORD, 0);
+    speltmallet_request(request, 3, 1, 5, 5, 0);
+    refused("operation 3, Set as it was", 600, 12, 8, SPELTMALLET_BAD_RECORD, 0);
     speltmallet_request(request, SPELTMALLET_OP_TICKS, 0, 0, 0, 0);
     refused("Ticks by 0", 600, 12, 8, SPELTMALLET_BAD_TICKS, 0);
     speltmallet_request(request, SPELTMALLET_OP_TICKS, 0, 0, SPELTMALLET_MOST_TICKS + 1, 0);
     refused("Ticks by 100,000", 600, 12, 8, SPELTMALLET_BAD_TICKS, 0);
     speltmallet_request(request, SPELTMALLET_OPERATIONS, 0, 0, 0, 0);
-    refused("operation 23", 600, 12, 8, SPELTMALLET_BAD_RECORD, 0);
+    refused("operation 25", 600, 12, 8, SPELTMALLET_BAD_RECORD, 0);
     speltmallet_request(request, SPELTMALLET_OP_RESUME, SPELTMALLET_THREADS, 0, 0, 0);
     refused("thread 16", 600, 12, 8, SPELTMALLET_BAD_THREAD, 0);
     speltmallet_request(request, SPELTMALLET_OP_RESUME, 1, 0, 0, 0);
@@ -203,13 +231,19 @@ static void helpers(void) {
     check_text("code 2", speltmallet_code_name(2), "no code");
     check_text("code -9", speltmallet_code_name(-9), "no code");
     check_text("operation 0", speltmallet_operation_name(SPELTMALLET_OP_YIELD), "Yield");
+    check_text("operation 2", speltmallet_operation_name(SPELTMALLET_OP_DELETE), "Delete");
+    check_text("operation 3", speltmallet_operation_name(3), "no operation");
+    check_text("operation 4", speltmallet_operation_name(SPELTMALLET_OP_SUSPEND), "Suspend");
     check_text("operation 9", speltmallet_operation_name(SPELTMALLET_OP_SEND_FROM_INTERRUPT), "Send from interrupt");
     check_text("operation 11", speltmallet_operation_name(SPELTMALLET_OP_MAKE), "Make semaphore");
     check_text("operation 16", speltmallet_operation_name(SPELTMALLET_OP_POST_FROM_INTERRUPT), "Post from interrupt");
     check_text("operation 20", speltmallet_operation_name(SPELTMALLET_OP_OUTCOME), "Outcome");
     check_text("operation 21", speltmallet_operation_name(SPELTMALLET_OP_TICKS), "Ticks");
     check_text("operation 22", speltmallet_operation_name(SPELTMALLET_OP_NEAREST), "Nearest");
-    check_text("operation 23", speltmallet_operation_name(SPELTMALLET_OPERATIONS), "no operation");
+    check_text("operation 23", speltmallet_operation_name(SPELTMALLET_OP_SET_PRIORITY), "Set priority");
+    check_text("operation 24", speltmallet_operation_name(SPELTMALLET_OP_SET_TURN), "Set turn");
+    check_text("operation 25", speltmallet_operation_name(SPELTMALLET_OPERATIONS), "no operation");
+    check_text("operation 255", speltmallet_operation_name(255), "no operation");
 }
 
 int main(void) {
@@ -219,6 +253,7 @@ int main(void) {
     mail();
     line();
     asleep();
+    settings();
     refusals();
     printf("the door from C: %d checks, %d failed\n", checks, failures);
     return failures != 0;

@@ -8,7 +8,7 @@
   for (i = 1; i <= NF; i++) if ($i ~ /^[a-z_]+:$/) field[request, ++fields[request]] = toupper(substr($i, 1, length($i) - 1))
 }
 
-# a line: uses ✓ ✗ ✓ ✓ (λ o p n d. Ask.Send o n d); one that has no request keeps its number free
+# a line: uses ✓ ✗ ✓ ✓ (λ o p n d. Ask.Send o n d); one that has no request, as gone, keeps its number free
 /^operations =/, /\[\]/ {
   gsub(/[().]/, " ")
   if (NF == 0 || $1 == "operations") next

@@ -76,7 +76,6 @@ step-finds s (Ask.Create i p n) σ z = create-finds s i p n z
 step-finds s Ask.Tick σ z = used-range (s .threads) (s .running) (ready-used (at (s .threads) (s .running)) (σ .runs))
 step-finds s Ask.Yield σ z = tt
 step-finds s (Ask.Delete i) σ z = tt
-step-finds s (Ask.Set i p n) σ z = tt
 step-finds s (Ask.Suspend i) σ z = tt
 step-finds s (Ask.Resume i) σ z = tt
 step-finds s (Ask.Delay n) σ z = tt
@@ -95,6 +94,8 @@ step-finds s Ask.Unlock σ z = tt
 step-finds s (Ask.Outcome i) σ z = tt
 step-finds s (Ask.Ticks n) σ z = tt
 step-finds s Ask.Nearest σ z = tt
+step-finds s (Ask.SetPriority i p) σ z = tt
+step-finds s (Ask.SetTurn i n) σ z = tt
 
 pub finds : (b : Board) (t r a : List ℕ) (q : Request) → decodeRequest r ≡ Asked q → isZero (door b t r a .code) ≡ true → Finds (b .threads) (deedOf q) (decode b t .running)
 unfolding door serveDecoded

@@ -12,7 +12,7 @@ use lib.ListN.{length, set, length-set}
 use lib.Seq.{ext-getD, getD-set-same, getD-set-other}
 use Rattle.rules.specs.Board.{mostTicks}
 use Rattle.laws.proofs.Split.{is, isnt, test, and-off}
-use Rattle.fairness.specs.Run.{Event, Deed, tick, yield, other, change, create, sleep, deed, accepted, chargedTo}
+use Rattle.fairness.specs.Run.{Event, Deed, tick, yield, other, setPriority, setTurn, create, sleep, deed, accepted, chargedTo}
 use Rattle.lanes.specs.Lag.{makes, creates, accountFrom}
 use Rattle.lanes.proofs.Lag.{account-append, account-most}
 use Rattle.lanes.specs.Kept.{of, Within}
@@ -79,7 +79,8 @@ module _ (e : Event) (ns : List ℕ) where
     unfolding accountFrom
     by-deed yield k = none-changed (λ i. rw k) (λ i. rw k)
     by-deed other k = none-changed (λ i. rw k) (λ i. rw k)
-    by-deed (change j) k = none-changed (λ i. rw k) (λ i. rw k)
+    by-deed (setPriority j) k = none-changed (λ i. rw k) (λ i. rw k)
+    by-deed (setTurn j) k = none-changed (λ i. rw k) (λ i. rw k)
     by-deed (sleep j) k = none-changed (λ i. rw k) (λ i. rw k)
     by-deed (create j) k = by-each (set ns j 0) (length-set ns j 0) (λ i h. elim (test (eqb j i)) [
       | is q ↦ rw (k, a, q, eqb-true j i q) (sym (getD-set-same ns i 0 0 h))

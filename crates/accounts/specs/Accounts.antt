@@ -9,7 +9,7 @@ use Rattle.rules.specs.State.{State}
 use Rattle.rules.specs.Requests.{requestLength}
 use Rattle.rules.specs.Door.{Handed, door}
 use Rattle.rules.specs.Trace.{records, cleanArea, cleanly}
-use Rattle.fairness.specs.Run.{Event, Deed, tick, yield, other, change, create, sleep}
+use Rattle.fairness.specs.Run.{Event, Deed, tick, yield, other, setPriority, setTurn, create, sleep}
 use Rattle.fairness.specs.Doors.{countedAs, runOf}
 use Rattle.leaps.specs.Ticks.{Leap}
 use Rattle.leaps.specs.Charges.{chargesOf}
@@ -27,7 +27,8 @@ abbrev pub entered : List ℕ → Deed → ℕ → ℕ → List ℕ
 entered accounts tick ran lock = if eqb lock 0 then set accounts ran (of accounts ran + 1) else accounts
 entered accounts (create i) ran lock = set accounts i 0
 entered accounts yield ran lock = accounts
-entered accounts (change i) ran lock = accounts
+entered accounts (setPriority i) ran lock = accounts
+entered accounts (setTurn i) ran lock = accounts
 entered accounts other ran lock = accounts
 -- ticks at once are entered by the leaps that they are
 entered accounts (sleep n) ran lock = accounts
@@ -70,6 +71,7 @@ abbrev pub Finds : ℕ → Deed → ℕ → Type 0
 Finds n tick ran = ran < n
 Finds n (create i) ran = i < n
 Finds n yield ran = Unit {0}
-Finds n (change i) ran = Unit {0}
+Finds n (setPriority i) ran = Unit {0}
+Finds n (setTurn i) ran = Unit {0}
 Finds n other ran = Unit {0}
 Finds n (sleep m) ran = Unit {0}

@@ -88,7 +88,6 @@ sleeps (Ask.Ticks n) = asleep n refl
 sleeps Ask.Yield = awake refl
 sleeps (Ask.Create i p n) = awake refl
 sleeps (Ask.Delete i) = awake refl
-sleeps (Ask.Set i p n) = awake refl
 sleeps (Ask.Suspend i) = awake refl
 sleeps (Ask.Resume i) = awake refl
 sleeps (Ask.Delay n) = awake refl
@@ -107,6 +106,8 @@ sleeps Ask.Unlock = awake refl
 sleeps Ask.Tick = awake refl
 sleeps (Ask.Outcome i) = awake refl
 sleeps Ask.Nearest = awake refl
+sleeps (Ask.SetPriority i p) = awake refl
+sleeps (Ask.SetTurn i n) = awake refl
 
 pub nothing : (a : Bool) → _≡_ {A = ℕ} (if a then 0 else 0) 0
 nothing true = refl

@@ -7,14 +7,14 @@ use Prim.Native.Nat.{ℕ, zero, suc, pred, _<_}
 use native.Mathlib.Omega.{arith}
 use native.Mathlib.Decide.{ℕ-discrete, decLt}
 use lib.Dec.{eqb, ltb}
-use borrow.Author.Tests.{ltb-false, not-false}
+use borrow.Author.Tests.{eq-eqb, ltb-false, not-false, not-true}
 use lib.ListN.{length, List·getD-eq-default}
 use Rattle.rules.specs.Basic.{if_then_else_}
-use Rattle.rules.specs.State.{State, free, at, caller, counterOf, waiting, delaying, receiving, pending, isReady, withPlace, withCounter, withMail, withSettings, withThreads, edit}
+use Rattle.rules.specs.State.{State, free, at, caller, counterOf, waiting, delaying, receiving, pending, isReady, withPlace, withCounter, withMail, withPriority, withTurn, withThreads, edit}
 use Rattle.rules.specs.Lines.{Line, senders, ready, same, line, inLine, lineLength, isFirst, first, filled, move, settle}
 use Rattle.rules.specs.Answers.{codeOf}
 use Rattle.rules.specs.Waiting.{Step, acceptThreads, ended, endWait, serve, begun, block, mustWait}
-use Rattle.rules.specs.Threads.{badPriority, badTicks, noThread, doYield, doCreate, deleted, doDelete, doSet, stopped, doSuspend, doResume, doDelay, breakOff, doCancel}
+use Rattle.rules.specs.Threads.{badPriority, badTicks, noThread, doYield, doCreate, deleted, doDelete, stopped, doSuspend, doResume, doDelay, breakOff, doCancel, doSetPriority, doSetTurn}
 use Rattle.rules.specs.Mail.{delivered, doSend, doSendFromInterrupt, emptied, doReceive}
 use Rattle.rules.specs.Semaphores.{doMake, doDrop, doPend, doAbort, posted, doPost, doPostFromInterrupt}
 use Rattle.rules.specs.Time.{doLock, doUnlock, timedOut, countDown, timeouts, doOutcome}
@@ -31,7 +31,7 @@ use Rattle.rules.specs.declared.Answer.{Answer}
 use Rattle.rules.specs.declared.Answer.the-variants.{Refused}
 use Rattle.rules.specs.declared.Refusal.the-variants.{BadTicks}
 use Rattle.laws.proofs.Split.{is, isnt, test, clash, and-true, or-false, if-case}
-use Rattle.laws.proofs.Lines.{same-eq, line-filled, waiting-out, unready-out, free-out, suspended-out}
+use Rattle.laws.proofs.Lines.{same-eq, line-filled, line-priority, in-ready, waiting-out, unready-out, free-out, suspended-out}
 use Rattle.laws.proofs.Members.{in-range}
 use Rattle.laws.proofs.Counts.{find-hit}
 use Rattle.laws.proofs.Moves.{moveUp-field, move-other, move-self, length-move}
@@ -107,13 +107,14 @@ moved-in : (l : Line) (i : ℕ) (g : Thread → Thread) (ts : List Thread) → i
 moved-in l i g ts h = rw (move-self i g ts h, line-filled)
 
 -- thread i leaves its ready line for good: it is no member, or the set is not the same
-left : (p : ℕ) (s : State) (a : Answer) (i : ℕ) (g : Thread → Thread) → ((t : Thread) → inLine (ready p) (g t) ≡ false)
+left : (p : ℕ) (s : State) (a : Answer) (i : ℕ) (g : Thread → Thread)
+    → (inLine (ready p) (at (s .threads) i) ≡ true → inLine (ready p) (g (withPlace 0 (at (s .threads) i))) ≡ false)
     → Effect p s (record { state = settle (withThreads (move i g (s .threads)) s); answer = a })
 unfolding Same Effect
 left p s a i g h k =
     let u = withThreads (move i g (s .threads)) s in
     rw (settle-threads u) (elim (test (inLine (ready p) (at (s .threads) i))) [
-      | is m ↦ absurd (clash m (sym (rw (settle-threads u) at (k i)) ∙ moved-in (ready p) i g (s .threads) (in-range (s .threads) i (ready p) m) ∙ h _))
+      | is m ↦ absurd (clash m (sym (rw (settle-threads u) at (k i)) ∙ moved-in (ready p) i g (s .threads) (in-range (s .threads) i (ready p) m) ∙ h m))
       | isnt m ↦ keeps-move p i g (s .threads) m
     ])
 
@@ -170,24 +171,47 @@ gone p s i k =
       | isnt m ↦ keeps-trans p ts us _ (keeps-move p i (λ t. free) ts m) (keeps-serve p n (senders i) Failed us refl)
     ])
 
-sets : (p : ℕ) (s : State) (i q n : ℕ) → isZero (codeOf (doSet s i q n .answer)) && inLine (ready p) (at (s .threads) i) ≡ false → Effect p s (doSet s i q n)
-unfolding doSet
-sets p s i q n =
+-- a priority that a ready thread does not have yet takes it out of its rank
+other-rank : (p q : ℕ) (t : Thread) → inLine (ready p) t ≡ true → not (eqb (t .priority) q) ≡ true → inLine (ready p) (withPriority q t) ≡ false
+other-rank p q t m e = elim (test (inLine (ready p) (withPriority q t))) [
+  | is n ↦
+      let a = in-ready p t .0 m .1 in
+      let b = in-ready p (withPriority q t) .0 n .1 in
+      absurd (clash (eq-eqb (t .priority) q (a ∙ sym b)) (not-true _ e))
+  | isnt n ↦ n
+]
+
+-- a ready thread is given another priority
+moves-priority : (p : ℕ) (s : State) (i q : ℕ) → isReady (at (s .threads) i) && not (eqb (at (s .threads) i .priority) q) ≡ true
+    → Effect p s (acceptThreads s (move i (withPriority q) (s .threads)))
+moves-priority p s i q e =
+    let t = at (s .threads) i in
+    left p s _ i (withPriority q) (λ m. other-rank p q (withPlace 0 t) m (and-true (isReady t) _ e .1))
+
+-- a thread is given a priority that leaves it in its line
+edits-priority : (p : ℕ) (s : State) (i q : ℕ) → isReady (at (s .threads) i) && not (eqb (at (s .threads) i .priority) q) ≡ false
+    → Effect p s (acceptThreads s (edit i (withPriority q) (s .threads)))
+edits-priority p s i q e = settled p s _ _ (keeps-edit p i (withPriority q) (s .threads) (λ m. record { member = rw (line-priority q (at (s .threads) i) e) m; place = refl; counter = refl; turn = refl }))
+
+sets-priority : (p : ℕ) (s : State) (i q : ℕ) → Effect p s (doSetPriority s i q)
+unfolding doSetPriority
+sets-priority p s i q = search (effect-if, untouched, moves-priority, edits-priority) depth 10
+
+sets-turn : (p : ℕ) (s : State) (i n : ℕ) → isZero (codeOf (doSetTurn s i n .answer)) && inLine (ready p) (at (s .threads) i) ≡ false → Effect p s (doSetTurn s i n)
+unfolding doSetTurn
+sets-turn p s i n =
     let P : Step → Type 0 = λ r. isZero (codeOf (r .answer)) && inLine (ready p) (at (s .threads) i) ≡ false → Effect p s r in
-    if-case P (badPriority q) (λ a h. untouched p s _) (λ a.
-    if-case P (badTicks n) (λ b h. untouched p s _) (λ b.
-    if-case P (noThread s i) (λ c h. untouched p s _) (λ c.
-    if-case P (eqb i 0) (λ d h. untouched p s _) (λ d.
-    if-case P (isReady (at (s .threads) i) && not (eqb (at (s .threads) i .priority) q))
-    (λ e h. settled p s _ _ (keeps-move p i (withSettings q n) (s .threads) h))
-    (λ e h. settled p s _ _ (keeps-off p i (λ t. filled (withSettings q n t)) (s .threads) h))))))
+    if-case P (badTicks n) (λ a h. untouched p s _) (λ a.
+    if-case P (noThread s i) (λ b h. untouched p s _) (λ b.
+    if-case P (eqb i 0) (λ c h. untouched p s _)
+    (λ c h. settled p s _ _ (keeps-off p i (λ t. filled (withTurn n t)) (s .threads) h))))
 
 stops : (p : ℕ) (s : State) (i : ℕ) → Effect p s (acceptThreads s (move i stopped (s .threads)))
-stops p s i = left p s _ i stopped (λ t. suspended-out p (stopped t) refl)
+stops p s i = left p s _ i stopped (λ m. suspended-out p (stopped (withPlace 0 (at (s .threads) i))) refl)
 
 blocks : (p : ℕ) (s : State) (w : Wait) (x : ℕ) → waiting w ≡ true → Effect p s (block s w x)
 unfolding block
-blocks p s w x e = left p s _ (s .running) (begun w x) (λ t. waiting-out p (begun w x t) e)
+blocks p s w x e = left p s _ (s .running) (begun w x) (λ m. waiting-out p (begun w x (withPlace 0 (caller s))) e)
 
 -- ANY REQUEST
 
@@ -213,7 +237,6 @@ unfolding step doYield doCreate doDelete doSuspend doResume doDelay breakOff doC
 does p s Ask.Yield h = let o : eqb (s .lock) 0 && inLine (ready p) (caller s) ≡ false = rw (yield-done s) at h in keeps refl (search ranks depth 12)
 does p s (Ask.Create i r n) h = keeps refl (search ranks depth 12)
 does p s (Ask.Delete i) h = keeps refl (search ranks depth 12)
-does p s (Ask.Set i r n) h = keeps refl (sets p s i r n h)
 does p s (Ask.Suspend i) h = keeps refl (search ranks depth 12)
 does p s (Ask.Resume i) h = keeps refl (search ranks depth 12)
 does p s (Ask.Delay n) h = keeps refl (search ranks depth 12)
@@ -233,3 +256,5 @@ does p s Ask.Tick h = ticks refl
 does p s (Ask.Outcome i) h = keeps refl (search ranks depth 12)
 does p s (Ask.Ticks n) h = keeps refl (slept p s n h)
 does p s Ask.Nearest h = keeps refl (search ranks depth 12)
+does p s (Ask.SetPriority i q) h = keeps refl (sets-priority p s i q)
+does p s (Ask.SetTurn i n) h = keeps refl (sets-turn p s i n h)

@@ -11,7 +11,7 @@ use Rattle.rules.specs.Answers.{codeOf}
 use Rattle.rules.specs.Steps.{step}
 use Rattle.rules.specs.declared.Request.{Request}
 use Rattle.rules.specs.declared.Decoded.the-variants.{Asked}
-use Rattle.fairness.specs.Run.{Event, Deed, tick, yield, other, change, create, sleep, deed, accepted, readyAt, sameSet, sumTurns, chargedTo, chargedRank}
+use Rattle.fairness.specs.Run.{Event, Deed, tick, yield, other, setPriority, setTurn, create, sleep, deed, accepted, readyAt, sameSet, sumTurns, chargedTo, chargedRank}
 
 -- an event by the rules: it is refused and leaves the state as it is, or it is what `step` says
 pub data ByRules (e : Event) : Type 0 where
@@ -23,16 +23,18 @@ abbrev pub RunFrom : State → List Event → Type 0
 RunFrom s [] = Unit {0}
 RunFrom s (e ∷ es) = (e .before ≡ s) × ByRules e × RunFrom (e .after) es
 
--- what a thread of the rank does to its line by itself; a yield under lock does nothing
+-- what disturbs a rank whose ready set stays the same, less than demand 3 names: a yield under lock does nothing, and so does a priority, which
+-- either takes a thread out of the set or is the one that stands
 abbrev pub moves : ℕ → State → Deed → Bool
 moves p s tick = false
 moves p s yield = eqb (s .lock) 0 && readyAt p s (s .running)
-moves p s (change i) = readyAt p s i
+moves p s (setPriority i) = false
+moves p s (setTurn i) = readyAt p s i
 moves p s (create i) = false
 moves p s other = false
 moves p s (sleep n) = true
 
--- the rank's ready set stays the same, and none of its threads moves by itself
+-- the rank's ready set stays the same, and nothing disturbs it
 abbrev pub steady : ℕ → Event → Bool
 steady p e = sameSet p e && not (accepted e && moves p (e .before) (deed (e .asked)))
 

@@ -28,16 +28,15 @@ endOf s (e ∷ es) = endOf (e .after) es
 
 -- WHAT IS ASKED, as far as the demand tells requests apart
 
--- `change i` is a change of the settings of thread i, `create i` its creation, and `sleep n` n ticks at once
+-- `setPriority i` gives thread i a priority and `setTurn i` a turn, `create i` is its creation, and `sleep n` is n ticks at once
 pub data Deed : Type 0 where
   tick yield other : Deed
-  change create sleep : ℕ → Deed
+  setPriority setTurn create sleep : ℕ → Deed
 
 abbrev pub deedOf : Request → Deed
 deedOf Ask.Yield = yield
 deedOf (Ask.Create i p n) = create i
 deedOf (Ask.Delete i) = other
-deedOf (Ask.Set i p n) = change i
 deedOf (Ask.Suspend i) = other
 deedOf (Ask.Resume i) = other
 deedOf (Ask.Delay n) = other
@@ -57,6 +56,8 @@ deedOf Ask.Tick = tick
 deedOf (Ask.Outcome i) = other
 deedOf (Ask.Ticks n) = sleep n
 deedOf Ask.Nearest = other
+deedOf (Ask.SetPriority i p) = setPriority i
+deedOf (Ask.SetTurn i n) = setTurn i
 
 -- a record that asks nothing is no such deed
 abbrev pub deed : Decoded → Deed
@@ -67,7 +68,8 @@ abbrev pub isTick : Deed → Bool
 isTick tick = true
 isTick yield = false
 isTick other = false
-isTick (change i) = false
+isTick (setPriority i) = false
+isTick (setTurn i) = false
 isTick (create i) = false
 isTick (sleep n) = false
 
@@ -76,7 +78,8 @@ abbrev pub atOnce : Deed → ℕ
 atOnce tick = 0
 atOnce yield = 0
 atOnce other = 0
-atOnce (change i) = 0
+atOnce (setPriority i) = 0
+atOnce (setTurn i) = 0
 atOnce (create i) = 0
 atOnce (sleep n) = n
 
@@ -127,11 +130,13 @@ chargedRank p e = charges e && readyAt p (e .before) (e .before .running)
 
 -- THE THREADS' OWN DOING
 
--- "yields", "is named in [a] change of settings": a thread of the rank, if the request is accepted
+-- "yields", "is named in [a] change of settings": a thread of the rank, if the request is accepted. Order 8: "demand 3's premise names 23 and
+-- 24", so 23 also where the priority is the one that stands
 abbrev pub disturbs : ℕ → State → Deed → Bool
 disturbs p s tick = false
 disturbs p s yield = readyAt p s (s .running)
-disturbs p s (change i) = readyAt p s i
+disturbs p s (setPriority i) = readyAt p s i
+disturbs p s (setTurn i) = readyAt p s i
 disturbs p s (create i) = false
 disturbs p s other = false
 -- an accepted one is counted as its single ticks (`countedAs`), so that only the run of a wrong door has it: of one that accepts 0 ticks

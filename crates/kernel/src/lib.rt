@@ -28,11 +28,6 @@ fn step(t: &mut [u8], request: Request) -> Answer
             turn,
         } => threads::create(t, thread, priority, turn),
         Request::Delete { thread } => threads::delete(t, thread),
-        Request::Set {
-            thread,
-            priority,
-            turn,
-        } => threads::set(t, thread, priority, turn),
         Request::Suspend { thread } => threads::suspend(t, thread),
         Request::Resume { thread } => threads::resume(t, thread),
         Request::Delay { number } => threads::delay(t, number),
@@ -64,6 +59,8 @@ fn step(t: &mut [u8], request: Request) -> Answer
         Request::Outcome { thread } => time::outcome(t, thread),
         Request::Ticks { number } => sleep::ticks(t, number),
         Request::Nearest => sleep::nearest(t),
+        Request::SetPriority { thread, priority } => threads::set_priority(t, thread, priority),
+        Request::SetTurn { thread, turn } => threads::set_turn(t, thread, turn),
     }
 }
 

@@ -52,7 +52,6 @@ not-made s i (Ask.Create j p n) u = elim (test (eqb j i)) [
 ]
 not-made s i Ask.Yield u = refl
 not-made s i (Ask.Delete j) u = refl
-not-made s i (Ask.Set j p n) u = refl
 not-made s i (Ask.Suspend j) u = refl
 not-made s i (Ask.Resume j) u = refl
 not-made s i (Ask.Delay n) u = refl
@@ -72,6 +71,8 @@ not-made s i Ask.Tick u = refl
 not-made s i (Ask.Outcome j) u = refl
 not-made s i (Ask.Ticks n) u = refl
 not-made s i Ask.Nearest u = refl
+not-made s i (Ask.SetPriority j p) u = refl
+not-made s i (Ask.SetTurn j n) u = refl
 
 not-created : (p : ℕ) (e : Event) (i : ℕ) → ByRules e → readyAt p (e .before) i ≡ true → creates i e ≡ false
 not-created p e i (refused a k) m = rw a (and-off (makes i (deed (e .asked))))

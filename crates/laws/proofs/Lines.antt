@@ -6,7 +6,7 @@ use Prim.Native.Nat.{ℕ}
 use lib.Dec.{eqb}
 use borrow.Author.Tests.{eqb-true, eq-eqb, not-false}
 use Rattle.rules.specs.Basic.{if_then_else_}
-use Rattle.rules.specs.State.{waiting, isReady, withCounter, withCounterOf, withSuspended, withSettings}
+use Rattle.rules.specs.State.{waiting, isReady, withCounter, withCounterOf, withSuspended, withPriority}
 use Rattle.rules.specs.Test.{isNowhere}
 use Rattle.rules.specs.Lines.{Line, nowhere, ready, waiters, senders, same, waitLine, line, inLine, filled}
 use Rattle.rules.specs.declared.Thread.{Thread}
@@ -146,9 +146,9 @@ filled-field f t e = if-case (λ (u : Thread). f u ≡ f t) (isReady t) (λ a. e
 pub line-filled : (t : Thread) → line (filled t) ≡ line t
 line-filled t = filled-field line t (line-counter (t .turn) t)
 
--- new settings, unless a ready thread gets another priority
-pub line-settings : (p n : ℕ) (t : Thread) → isReady t && not (eqb (t .priority) p) ≡ false → line (withSettings p n t) ≡ line t
-line-settings p n t e = go (t .used) (t .suspended) (t .wait) (t .priority) e
+-- a priority, unless a ready thread gets another one
+pub line-priority : (p : ℕ) (t : Thread) → isReady t && not (eqb (t .priority) p) ≡ false → line (withPriority p t) ≡ line t
+line-priority p t e = go (t .used) (t .suspended) (t .wait) (t .priority) e
   where
     go : (u s : Bool) (w : Wait) (q : ℕ) → u && not s && not (waiting w) && not (eqb q p) ≡ false → _≡_ {A = Line} (if u then waitLine w s p else nowhere) (if u then waitLine w s q else nowhere)
     go false s w q e = refl

@@ -24,9 +24,11 @@ pub taken :
     × Takes (ascii "0006 00100000") (6 ∷ 0 ∷ 0 ∷ 0 ∷ 160 ∷ 134 ∷ 1 ∷ 0 ∷ 0 ∷ 0 ∷ 0 ∷ 0 ∷ [])
     × Takes (ascii "21 99999") (21 ∷ 0 ∷ 0 ∷ 0 ∷ 159 ∷ 134 ∷ 1 ∷ 0 ∷ 0 ∷ 0 ∷ 0 ∷ 0 ∷ [])
     × Takes (ascii "22") (22 ∷ 0 ∷ 0 ∷ 0 ∷ 0 ∷ 0 ∷ 0 ∷ 0 ∷ 0 ∷ 0 ∷ 0 ∷ 0 ∷ [])
+    × Takes (ascii "23 1 5") (23 ∷ 1 ∷ 5 ∷ 0 ∷ 0 ∷ 0 ∷ 0 ∷ 0 ∷ 0 ∷ 0 ∷ 0 ∷ 0 ∷ [])
+    × Takes (ascii "24 1 8") (24 ∷ 1 ∷ 0 ∷ 0 ∷ 8 ∷ 0 ∷ 0 ∷ 0 ∷ 0 ∷ 0 ∷ 0 ∷ 0 ∷ [])
     × Takes (ascii "0000000000000000000000000000000000000017") (17 ∷ 0 ∷ 0 ∷ 0 ∷ 0 ∷ 0 ∷ 0 ∷ 0 ∷ 0 ∷ 0 ∷ 0 ∷ 0 ∷ [])
 unfolding recordOf numberFrom digitsFrom fieldsFrom fieldFrom spacedFrom ended
-taken = (refl, refl, refl, refl, refl, refl, refl, refl)
+taken = (refl, refl, refl, refl, refl, refl, refl, refl, refl, refl)
 
 -- 41 characters, the empty line, two spaces, a space before and behind, objects and priorities of over a byte, a number and data of over a word,
 -- operations that −8 refuses, too few fields and too many, a carriage return, a letter, a sign, a tabulator
@@ -34,11 +36,11 @@ pub bad :
     Refuses (ascii "00000000000000000000000000000000000000017") × Refuses (ascii "") × Refuses (ascii "13 0  5")
     × Refuses (ascii " 19") × Refuses (ascii "19 ") × Refuses (ascii " ")
     × Refuses (ascii "2 256") × Refuses (ascii "1 1 256 1") × Refuses (ascii "6 4294967296") × Refuses (ascii "9 0 4294967296")
-    × Refuses (ascii "21") × Refuses (ascii "22 1") × Refuses (ascii "23") × Refuses (ascii "256") × Refuses (ascii "99999999999999999999999999999999999999")
+    × Refuses (ascii "21") × Refuses (ascii "22 1") × Refuses (ascii "3") × Refuses (ascii "3 1 5 2") × Refuses (ascii "23 1 5 2") × Refuses (ascii "24 1 5 2") × Refuses (ascii "25") × Refuses (ascii "256") × Refuses (ascii "99999999999999999999999999999999999999")
     × Refuses (ascii "13 0") × Refuses (ascii "1 1 1") × Refuses (ascii "19 0") × Refuses (ascii "8 1 2 3 4")
     × Refuses (ascii "19\r") × Refuses (ascii "2 a") × Refuses (ascii "6 -1") × Refuses (ascii "6 +1") × Refuses (ascii "6\t1")
 unfolding recordOf numberFrom digitsFrom fieldsFrom fieldFrom spacedFrom ended
-bad = (refl, refl, refl, refl, refl, refl, refl, refl, refl, refl, refl, refl, refl, refl, refl, refl, refl, refl, refl, refl, refl, refl, refl, refl)
+bad = (refl, refl, refl, refl, refl, refl, refl, refl, refl, refl, refl, refl, refl, refl, refl, refl, refl, refl, refl, refl, refl, refl, refl, refl, refl, refl, refl, refl)
 
 pub texts :
     (write (ascii "") ≡ record { done = []; bad = none })
@@ -55,6 +57,7 @@ pub listed :
     ≡ record { done = ascii "8 255 4294967295 4294967294" ∷ ascii "19" ∷ []; bad = some 2 })
     × (list (19 ∷ 0 ∷ 0 ∷ 0 ∷ 0 ∷ 0 ∷ 0 ∷ 0 ∷ 0 ∷ 0 ∷ 0 ∷ 1 ∷ []) ≡ record { done = []; bad = some 0 })
     × (textOf (ascii "17" ∷ ascii "2 3" ∷ []) ≡ ascii "17\n2 3\n")
-    × (lineOf (23 ∷ 0 ∷ 0 ∷ 0 ∷ 0 ∷ 0 ∷ 0 ∷ 0 ∷ 0 ∷ 0 ∷ 0 ∷ 0 ∷ []) ≡ none)
+    × (lineOf (3 ∷ 1 ∷ 5 ∷ 0 ∷ 2 ∷ 0 ∷ 0 ∷ 0 ∷ 0 ∷ 0 ∷ 0 ∷ 0 ∷ []) ≡ none)
+    × (lineOf (25 ∷ 0 ∷ 0 ∷ 0 ∷ 0 ∷ 0 ∷ 0 ∷ 0 ∷ 0 ∷ 0 ∷ 0 ∷ 0 ∷ []) ≡ none)
 unfolding turnedFrom each records lineOf lineText requestOf decodeRequest digits decimal textOf
-listed = (refl, refl, refl, refl)
+listed = (refl, refl, refl, refl, refl)

@@ -7,10 +7,10 @@ use mathlib.Core.Option.{Option, none, some, Option·some-injective, Option·non
 use Prim.Native.Nat.{ℕ, _≤_, _<_}
 use native.Mathlib.Omega.{arith}
 use lib.Dec.{ltb}
-use lib.ListN.{length, length-append, getD, getElem?}
+use lib.ListN.{length, length-append, getD}
 use borrow.Author.Tests.{lt-ltb, le-ltb}
 use Rattle.rules.specs.Table.{wordAt}
-use Rattle.rules.specs.Requests.{Operation, operations, decodeRequest}
+use Rattle.rules.specs.Requests.{Operation, operationOf, decodeRequest}
 use Rattle.text.specs.Text.{decimal}
 use Rattle.text.proofs.Decimal.{decimal-room}
 use Rattle.request.specs.Written.{recordBytes}
@@ -90,7 +90,7 @@ listed r byte q e = taken-back r byte (ap refused e)
 line-taken : (r l : List ℕ) → lineOf r ≡ some l → refused (decodeRequest r) ≡ false
 unfolding lineOf
 line-taken r l e =
-    unless-some (refused (decodeRequest r)) (getElem? operations (getD r 0 0) andThen λ u. some (lineText u (getD r 0 0) (getD r 1 0) (getD r 2 0) (wordAt r 4) (wordAt r 8))) l e .0
+    unless-some (refused (decodeRequest r)) (operationOf (getD r 0 0) andThen λ u. some (lineText u (getD r 0 0) (getD r 1 0) (getD r 2 0) (wordAt r 4) (wordAt r 8))) l e .0
 
 -- the same of a line that is known
 pub line-back : (r l : List ℕ) → Bytes r → lineOf r ≡ some l → recordOf l ≡ some r
@@ -112,7 +112,7 @@ pub record Read (l r : List ℕ) : Type 0 where
   pub n : Front
   pub d : Front
   pub first : numberFrom l ≡ some a
-  pub there : getElem? operations (a .number) ≡ some by
+  pub there : operationOf (a .number) ≡ some by
   pub object : Field (by .object) mostByte (a .rest) o
   pub priority : Field (by .priority) mostByte (o .rest) p
   pub number : Field (by .number) mostWord (p .rest) n
@@ -123,9 +123,9 @@ pub record Read (l r : List ℕ) : Type 0 where
 pub read : (l r : List ℕ) → recordOf l ≡ some r → Read l r
 unfolding recordOf fieldsFrom
 read l r e =
-    let line = unless-some (ltb lineMost (length l)) (numberFrom l andThen λ a. getElem? operations (a .number) andThen λ u. fieldsFrom u a) r e in
-    let A = then-some (numberFrom l) (λ a. getElem? operations (a .number) andThen λ u. fieldsFrom u a) r (line .1) in
-    let U = then-some (getElem? operations (A .0 .number)) (λ u. fieldsFrom u (A .0)) r (A .2) in
+    let line = unless-some (ltb lineMost (length l)) (numberFrom l andThen λ a. operationOf (a .number) andThen λ u. fieldsFrom u a) r e in
+    let A = then-some (numberFrom l) (λ a. operationOf (a .number) andThen λ u. fieldsFrom u a) r (line .1) in
+    let U = then-some (operationOf (A .0 .number)) (λ u. fieldsFrom u (A .0)) r (A .2) in
     let u = U .0 in
     let O = then-some (fieldFrom (u .object) mostByte (A .0 .rest)) _ r (U .2) in
     let P = then-some (fieldFrom (u .priority) mostByte (O .0 .rest)) _ r (O .2) in

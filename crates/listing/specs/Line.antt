@@ -5,10 +5,10 @@ use mathlib.Core.List.{List, [], _∷_, _++_}
 use mathlib.Core.Option.{Option, none, some}
 use Prim.Native.Nat.{ℕ, _+_, _*_, _-_}
 use lib.Dec.{eqb, leb, ltb}
-use lib.ListN.{length, getD, getElem?}
+use lib.ListN.{length, getD}
 use Rattle.rules.specs.Basic.{if_then_else_}
 use Rattle.rules.specs.Table.{wordAt}
-use Rattle.rules.specs.Requests.{Operation, operations, decodeRequest}
+use Rattle.rules.specs.Requests.{Operation, operationOf, decodeRequest}
 use Rattle.rules.specs.declared.Decoded.{Decoded}
 use Rattle.rules.specs.declared.Decoded.the-variants.{Asked, Bad}
 use Rattle.request.specs.Written.{recordBytes}
@@ -48,7 +48,7 @@ some a andThen f = f a
 unfoldable pub lineOf : List ℕ → Option (List ℕ)
 lineOf r =
     if refused (decodeRequest r) then none else
-    (getElem? operations (getD r 0 0) andThen λ u. some (lineText u (getD r 0 0) (getD r 1 0) (getD r 2 0) (wordAt r 4) (wordAt r 8)))
+    (operationOf (getD r 0 0) andThen λ u. some (lineText u (getD r 0 0) (getD r 1 0) (getD r 2 0) (wordAt r 4) (wordAt r 8)))
 
 -- FROM A LINE TO ITS RECORD
 
@@ -109,7 +109,7 @@ fieldsFrom u a =
 unfoldable pub recordOf : List ℕ → Option (List ℕ)
 recordOf line =
     if ltb lineMost (length line) then none else
-    (numberFrom line andThen λ a. getElem? operations (a .number) andThen λ u. fieldsFrom u a)
+    (numberFrom line andThen λ a. operationOf (a .number) andThen λ u. fieldsFrom u a)
 
 -- order 2: "if its numbers had no leading zeros". No 0 at a number's start has a digit after it. `start` says that no digit stands before
 unfoldable pub plainFrom : Bool → List ℕ → Bool

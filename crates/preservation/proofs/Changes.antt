@@ -7,7 +7,7 @@ use Prim.Native.Nat.{ℕ, _≤_}
 use native.Mathlib.Omega.{arith}
 use Rattle.rules.specs.Basic.{if_then_else_}
 use Rattle.rules.specs.Board.{topPriority, mostTicks}
-use Rattle.rules.specs.State.{free, counterOf, withCounterOf, waiting, delaying, receiving, sending, isReady, withPlace, withCounter, withWait, withSuspended, withMail, withSettings}
+use Rattle.rules.specs.State.{free, counterOf, withCounterOf, waiting, delaying, receiving, sending, isReady, withPlace, withCounter, withWait, withSuspended, withMail, withPriority, withTurn}
 use Rattle.rules.specs.Lines.{nowhere, ready, line, waitLine}
 use Rattle.rules.specs.Waiting.{ended, begun}
 use Rattle.rules.specs.Threads.{created, stopped}
@@ -88,10 +88,13 @@ sound-resumed : {t : Thread} → (isReady (withSuspended false t) ≡ true → t
     → SoundThread t → SoundThread (withSuspended false t)
 sound-resumed {t} one two none own = search
 
-sound-settings : (p n : ℕ) {t : Thread} → p ≤ topPriority → (1 ≤ n) × (n ≤ mostTicks)
+sound-priority : (p : ℕ) {t : Thread} → p ≤ topPriority → SoundThread t → SoundThread (withPriority p t)
+sound-priority p {t} h own = search
+
+sound-turn : (n : ℕ) {t : Thread} → (1 ≤ n) × (n ≤ mostTicks)
     → (isReady t ≡ true → t .place ≡ 1 → (1 ≤ counterOf (t .wait)) × (counterOf (t .wait) ≤ n)) → (isReady t ≡ true → 2 ≤ t .place → counterOf (t .wait) ≡ n)
-    → SoundThread t → SoundThread (withSettings p n t)
-sound-settings p n {t} h l one two own = search
+    → SoundThread t → SoundThread (withTurn n t)
+sound-turn n {t} l one two own = search
 
 sound-mail : (b : Bool) (x : ℕ) {t : Thread} → (receiving (t .wait) ≡ true → b ≡ false) → (b ≡ false → x ≡ 0) → SoundThread t → SoundThread (withMail b x t)
 sound-mail b x {t} p q own = search
@@ -163,10 +166,14 @@ module _ {a : Asks} {i : ℕ} {t : Thread} (f : Fit a i t) (u : t .used ≡ true
       (wait-sound (withSuspended b t) (t .wait) w (own .priority) (own .turn) (own .empty) (own .delay) (own .timed w) (own .receiver) (own .outcome w) (own .parcel))
       (f .init) (λ e. absurd (clash w (ready-parts t (f .ready e) .2))) (restand a i (t .used) (t .suspended) b (t .wait) (t .priority) (t .priority) (f .stands)) (f .full)
 
-  -- it has new settings
-  pub fit-settings : (p n : ℕ) → i ≢ 0 → p ≤ topPriority → (1 ≤ n) × (n ≤ mostTicks) → Fit a i (withSettings p n (withPlace 0 t))
-  fit-settings p n k h l = fit-used u (sound-settings p n h l (λ r e. absurd (omega arith)) (λ r e. absurd (omega arith)) lifted)
+  -- it has another priority
+  pub fit-priority : (p : ℕ) → i ≢ 0 → p ≤ topPriority → Fit a i (withPriority p t)
+  fit-priority p k h = fit-used u (sound-priority p h own)
       (λ e. absurd (k e)) (f .ready) (restand a i (t .used) (t .suspended) (t .suspended) (t .wait) (t .priority) p (f .stands)) (f .full)
+
+  -- it has another turn
+  pub fit-turn : (n : ℕ) → (1 ≤ n) × (n ≤ mostTicks) → Fit a i (withTurn n (withPlace 0 t))
+  fit-turn n l = fit-used u (sound-turn n l (λ r e. absurd (omega arith)) (λ r e. absurd (omega arith)) lifted) (f .init) (f .ready) (f .stands) (f .full)
 
   -- its mailbox is filled or emptied
   pub fit-mail : (b : Bool) (x : ℕ) → (receiving (t .wait) ≡ true → b ≡ false) → (b ≡ false → x ≡ 0) → (a .full i ≡ true → b ≡ true) → Fit a i (withMail b x t)

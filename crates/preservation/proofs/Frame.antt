@@ -12,7 +12,7 @@ use Rattle.rules.specs.Board.{Board}
 use Rattle.rules.specs.State.{State, On, withThreads, withSems, withLock, edit}
 use Rattle.rules.specs.Lines.{Line, first, move, settle}
 use Rattle.rules.specs.Waiting.{Step, endWait, serve, block, mustWait}
-use Rattle.rules.specs.Threads.{doYield, doCreate, deleted, doDelete, doSet, doSuspend, doResume, doDelay, breakOff, doCancel}
+use Rattle.rules.specs.Threads.{doYield, doCreate, deleted, doDelete, doSuspend, doResume, doDelay, breakOff, doCancel, doSetPriority, doSetTurn}
 use Rattle.rules.specs.Mail.{delivered, doSend, doSendFromInterrupt, emptied, doReceive}
 use Rattle.rules.specs.Semaphores.{doMake, doDrop, doPend, doAbort, posted, doPost, doPostFromInterrupt}
 use Rattle.rules.specs.Time.{charge, charged, countDown, timeouts, doLock, doUnlock, doTick, doOutcome}
@@ -135,11 +135,10 @@ firm-ticks s n a = framed-ticks n s
 -- EVERY STEP
 
 firm-step : (s : State) (q : Request) → Firm s (step s q)
-unfolding step endWait block mustWait doYield doCreate deleted doDelete doSet doSuspend doResume doDelay breakOff doCancel delivered doSend doSendFromInterrupt emptied doReceive doMake doDrop doPend doAbort posted doPost doPostFromInterrupt charge charged doLock doUnlock doTick doOutcome doTicks doNearest
+unfolding step endWait block mustWait doYield doCreate deleted doDelete doSuspend doResume doDelay breakOff doCancel doSetPriority doSetTurn delivered doSend doSendFromInterrupt emptied doReceive doMake doDrop doPend doAbort posted doPost doPostFromInterrupt charge charged doLock doUnlock doTick doOutcome doTicks doNearest
 firm-step s Ask.Yield = search firm depth 10
 firm-step s (Ask.Create i p n) = search firm depth 10
 firm-step s (Ask.Delete i) = search firm depth 10
-firm-step s (Ask.Set i p n) = search firm depth 10
 firm-step s (Ask.Suspend i) = search firm depth 10
 firm-step s (Ask.Resume i) = search firm depth 10
 firm-step s (Ask.Delay n) = search firm depth 10
@@ -159,6 +158,8 @@ firm-step s Ask.Tick = search firm depth 10
 firm-step s (Ask.Outcome i) = search firm depth 10
 firm-step s (Ask.Ticks n) = search (firm, firm-ticks) depth 10
 firm-step s Ask.Nearest = search firm depth 10
+firm-step s (Ask.SetPriority i p) = search firm depth 10
+firm-step s (Ask.SetTurn i n) = search firm depth 10
 
 -- a step neither adds nor takes away a record
 pub on-kept : (b : Board) (s : State) (q : Request) → On b s → On b (step s q .state)

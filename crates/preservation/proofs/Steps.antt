@@ -7,7 +7,7 @@ use Rattle.rules.specs.Sound.{Sound}
 use Rattle.rules.specs.declared.Request.{Request}
 use Rattle.rules.specs.declared.Request.the-variants as Ask
 use Rattle.preservation.proofs.Safe.{Safe}
-use Rattle.preservation.proofs.Threads.{safe-yield, safe-create, safe-delete, safe-set, safe-suspend, safe-resume, safe-delay, safe-break}
+use Rattle.preservation.proofs.Threads.{safe-yield, safe-create, safe-delete, safe-suspend, safe-resume, safe-delay, safe-break, safe-set-priority, safe-set-turn}
 use Rattle.preservation.proofs.Mail.{safe-send, safe-send-from-interrupt, safe-receive}
 use Rattle.preservation.proofs.Semaphores.{safe-make, safe-drop, safe-pend, safe-post, safe-post-from-interrupt}
 use Rattle.preservation.proofs.Time.{safe-lock, safe-unlock, safe-tick, safe-outcome}
@@ -18,7 +18,6 @@ unfolding step Safe doCancel doAbort
 kept s Ask.Yield σ = safe-yield s σ
 kept s (Ask.Create i p n) σ = safe-create s σ i p n
 kept s (Ask.Delete i) σ = safe-delete s σ i
-kept s (Ask.Set i p n) σ = safe-set s σ i p n
 kept s (Ask.Suspend i) σ = safe-suspend s σ i
 kept s (Ask.Resume i) σ = safe-resume s σ i
 kept s (Ask.Delay n) σ = safe-delay s σ n
@@ -38,3 +37,5 @@ kept s Ask.Tick σ = safe-tick s σ
 kept s (Ask.Outcome i) σ = safe-outcome s σ i
 kept s (Ask.Ticks n) σ = safe-ticks s σ n
 kept s Ask.Nearest σ = safe-nearest s σ
+kept s (Ask.SetPriority i p) σ = safe-set-priority s σ i p
+kept s (Ask.SetTurn i n) σ = safe-set-turn s σ i n

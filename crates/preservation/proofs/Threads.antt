@@ -1,4 +1,5 @@
--- Soundness is kept by the operations on threads: Yield, Create, Delete, Set, Suspend, Resume, Delay, Cancel. Assumes nothing.
+-- Soundness is kept by the operations on threads: Yield, Create, Delete, Suspend, Resume, Delay, Cancel, Set priority, Set turn. Assumes
+-- nothing.
 use mathlib.Core.Bool.{Bool, true, false, not, _&&_, _||_}
 use mathlib.Core.Path.{_≡_, refl, sym, _∙_}
 use mathlib.Core.Logic.{_≢_}
@@ -6,10 +7,10 @@ use Prim.Native.Nat.{ℕ}
 use native.Mathlib.Omega.{arith}
 use lib.Dec.{eqb, leb}
 use lib.ListN.{length}
-use Rattle.rules.specs.State.{State, free, at, caller, isReady, waiting, withPlace, withSuspended, withSettings, withThreads, edit}
+use Rattle.rules.specs.State.{State, free, at, caller, isReady, waiting, withPlace, withSuspended, withPriority, withTurn, withThreads, edit}
 use Rattle.rules.specs.Lines.{senders, lineLength, filled, move}
 use Rattle.rules.specs.Waiting.{endWait}
-use Rattle.rules.specs.Threads.{noThread, badPriority, badTicks, bound, created, stopped, doYield, doCreate, doSet, doSuspend, doResume, doDelay, deleted, doDelete, breakOff}
+use Rattle.rules.specs.Threads.{noThread, badPriority, badTicks, bound, created, stopped, doYield, doCreate, doSuspend, doResume, doDelay, deleted, doDelete, breakOff, doSetPriority, doSetTurn}
 use Rattle.rules.specs.Sound.{Sound}
 use Rattle.rules.specs.declared.Wait.{Wait}
 use Rattle.rules.specs.declared.Wait.the-variants.{Delay}
@@ -18,9 +19,9 @@ use Rattle.laws.proofs.Split.{clash}
 use Rattle.laws.proofs.Members.{used-range}
 use Rattle.laws.proofs.Placed.{move-count}
 use Rattle.laws.proofs.Reflect.{reflect}
-use Rattle.laws.proofs.Lines.{ready-used, filled-field, line-filled, line-settings, line-suspended}
-use Rattle.preservation.proofs.Fit.{Fit, Meets, ready-parts, fit-tail, meets-move, meets-edit}
-use Rattle.preservation.proofs.Changes.{Begins, fit-lifted, fit-created, fit-free, fit-settings, fit-stopped, fit-suspended, fit-resumed}
+use Rattle.laws.proofs.Lines.{ready-used, filled-field, line-filled, line-priority, line-suspended}
+use Rattle.preservation.proofs.Fit.{Meets, ready-parts, fit-tail, meets-move, meets-edit}
+use Rattle.preservation.proofs.Changes.{Begins, fit-lifted, fit-created, fit-free, fit-priority, fit-turn, fit-stopped, fit-suspended, fit-resumed}
 use Rattle.preservation.proofs.Waits.{meets-end, meets-serve, mailbox, serve-count}
 use Rattle.preservation.proofs.Settled.{asks, without, without-self, meets-without, Unsettled, sound-meets, sound-unsettled, kept-emptied}
 use Rattle.preservation.proofs.Safe.{Safe, ladder, safe-block, priority-ok, ticks-ok}
@@ -65,24 +66,6 @@ module _ (s : State) (σ : Sound s) where
   unfolding doDelete
   safe-delete i = search (ladder, deletes) depth 8
 
-  sets : (i p n : ℕ) → badPriority p ≡ false → badTicks n ≡ false → noThread s i ≡ false → eqb i 0 ≡ false → Fit (asks s) i (withSettings p n (withPlace 0 (at (s .threads) i)))
-  sets i p n a b c d = fit-settings (v .each i) (simp reflect at c) p n (simp reflect at d) (priority-ok p a) (ticks-ok n b)
-
-  sets-moved : (i p n : ℕ) → badPriority p ≡ false → badTicks n ≡ false → noThread s i ≡ false → eqb i 0 ≡ false → Meets (asks s) (move i (withSettings p n) (s .threads))
-  sets-moved i p n a b c d = meets-move i (withSettings p n) (sets i p n a b c d) v
-
-  sets-stayed : (i p n : ℕ) → badPriority p ≡ false → badTicks n ≡ false → noThread s i ≡ false → eqb i 0 ≡ false
-      → isReady (at (s .threads) i) && not (eqb (at (s .threads) i .priority) p) ≡ false → Meets (asks s) (edit i (λ t. filled (withSettings p n t)) (s .threads))
-  sets-stayed i p n a b c d e =
-      let t = at (s .threads) i in
-      let l = line-settings p n t e in
-      meets-edit i (λ t. filled (withSettings p n t)) (line-filled (withSettings p n t) ∙ l) (filled-field (λ t. t .place) (withSettings p n t) refl)
-      (fit-tail (t .place) (λ q. σ .lines .out i (sym l ∙ q)) (sets i p n a b c d)) v
-
-  pub safe-set : (i p n : ℕ) → Safe (doSet s i p n)
-  unfolding doSet
-  safe-set i p n = search (ladder, sets-moved, sets-stayed) depth 10
-
   stops : (i : ℕ) → noThread s i ≡ false → bound s i ≡ false → isReady (at (s .threads) i) ≡ true → Meets (asks s) (move i stopped (s .threads))
   stops i a b r = meets-move i stopped (fit-stopped (v .each i) (simp reflect at a) (ready-parts (at (s .threads) i) r .2) b) v
 
@@ -121,3 +104,25 @@ module _ (s : State) (σ : Sound s) where
   pub safe-break : (kind : Wait → Bool) (i : ℕ) → Safe (breakOff kind s i)
   unfolding breakOff
   safe-break kind i = search (ladder, breaks) depth 8
+
+  moves-priority : (i p : ℕ) → badPriority p ≡ false → noThread s i ≡ false → eqb i 0 ≡ false → Meets (asks s) (move i (withPriority p) (s .threads))
+  moves-priority i p a b c = meets-move i (withPriority p) (fit-priority (fit-lifted (v .each i)) (simp reflect at b) p (simp reflect at c) (priority-ok p a)) v
+
+  edits-priority : (i p : ℕ) → badPriority p ≡ false → noThread s i ≡ false → eqb i 0 ≡ false
+      → isReady (at (s .threads) i) && not (eqb (at (s .threads) i .priority) p) ≡ false → Meets (asks s) (edit i (withPriority p) (s .threads))
+  edits-priority i p a b c e =
+      meets-edit i (withPriority p) (line-priority p (at (s .threads) i) e) refl (fit-priority (v .each i) (simp reflect at b) p (simp reflect at c) (priority-ok p a)) v
+
+  pub safe-set-priority : (i p : ℕ) → Safe (doSetPriority s i p)
+  unfolding doSetPriority
+  safe-set-priority i p = search (ladder, moves-priority, edits-priority) depth 10
+
+  edits-turn : (i n : ℕ) → badTicks n ≡ false → noThread s i ≡ false → Meets (asks s) (edit i (λ t. filled (withTurn n t)) (s .threads))
+  edits-turn i n a b =
+      let t = at (s .threads) i in
+      meets-edit i (λ t. filled (withTurn n t)) (line-filled (withTurn n t)) (filled-field (λ t. t .place) (withTurn n t) refl)
+      (fit-tail (t .place) (σ .lines .out i) (fit-turn (v .each i) (simp reflect at b) n (ticks-ok n a))) v
+
+  pub safe-set-turn : (i n : ℕ) → Safe (doSetTurn s i n)
+  unfolding doSetTurn
+  safe-set-turn i n = search (ladder, edits-turn) depth 10

@@ -15,7 +15,7 @@ use Rattle.rules.specs.Lines.{Line, nowhere, waiters, senders, same, waitLine, 
 use Rattle.rules.specs.Table.{kindOf, objectOf, threadRow, encodeWith, encode, rows, decode}
 use Rattle.rules.specs.Answers.{codeOf, valueOf}
 use Rattle.rules.specs.Waiting.{Step, refuse, ahead, block, mayNotWait, neverWait, waitCounter, mustWait}
-use Rattle.rules.specs.Threads.{doYield, doCreate, doDelete, doSet, doSuspend, doResume, doDelay, breakOff, doCancel}
+use Rattle.rules.specs.Threads.{doYield, doCreate, doDelete, doSuspend, doResume, doDelay, breakOff, doCancel, doSetPriority, doSetTurn}
 use Rattle.rules.specs.Mail.{doSend, doSendFromInterrupt, doReceive}
 use Rattle.rules.specs.Semaphores.{doMake, doDrop, doPend, doAbort, doPost, doPostFromInterrupt}
 use Rattle.rules.specs.Time.{doLock, doUnlock, doTick, outcomeAnswer, doOutcome}
@@ -121,11 +121,10 @@ module _ (b : Board) (t : List ℕ) (σ : SoundTable b t) where
   ahead-receive c = rw running-used (count-nowhere (s .threads))
 
   pub tells : (q : Request) → Tells (told b t (fieldsOf q .0) (fieldsOf q .1)) (step s q)
-  unfolding step doYield doCreate doDelete doSet doSuspend doResume doDelay doCancel breakOff doSend doSendFromInterrupt doReceive doMake doDrop doPend doAbort doPost doPostFromInterrupt doLock doUnlock doTick doOutcome doTicks doNearest
+  unfolding step doYield doCreate doDelete doSuspend doResume doDelay doCancel doSetPriority doSetTurn breakOff doSend doSendFromInterrupt doReceive doMake doDrop doPend doAbort doPost doPostFromInterrupt doLock doUnlock doTick doOutcome doTicks doNearest
   tells Ask.Yield = search (branch, accepts) depth 8
   tells (Ask.Create i p n) = search (branch, refuses, accepts) depth 8
   tells (Ask.Delete i) = search (branch, refuses, accepts) depth 8
-  tells (Ask.Set i p n) = search (branch, refuses, accepts) depth 8
   tells (Ask.Suspend i) = search (branch, refuses, accepts) depth 8
   tells (Ask.Resume i) = search (branch, refuses, accepts) depth 8
   tells (Ask.Delay n) = search (branch, refuses, waits, ahead-delay) depth 8
@@ -145,3 +144,5 @@ module _ (b : Board) (t : List ℕ) (σ : SoundTable b t) where
   tells (Ask.Outcome i) = search (branch, refuses, outcome) depth 8
   tells (Ask.Ticks n) = search (branch, refuses, accepts) depth 8
   tells Ask.Nearest = search accepts depth 8
+  tells (Ask.SetPriority i p) = search (branch, refuses, accepts) depth 8
+  tells (Ask.SetTurn i n) = search (branch, refuses, accepts) depth 8

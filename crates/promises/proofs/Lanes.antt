@@ -42,7 +42,7 @@ lags-reckoned = record {
   halfRound = refl;
   chargedBefore = refl;
   yielded = refl;
-  set = refl;
+  turnSet = refl;
   suspended = refl;
 }
 

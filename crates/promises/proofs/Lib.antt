@@ -8,6 +8,7 @@ pub mod Second
 pub mod Word
 pub mod Third
 pub mod Slept
+pub mod FormerSet
 pub mod Figures
 pub mod Computed
 pub mod Incident

@@ -1,17 +1,17 @@
 -- The decoder's tests are document 01's condition for −8: the table of uses agrees with the decoder's line by line, and a word is zero
 -- exactly when its four bytes are. Assumes nothing.
-use mathlib.Core.Bool.{Bool, true, false}
+use mathlib.Core.Bool.{Bool, true, false, or-true, or-false}
 use mathlib.Core.Path.{_≡_, refl, sym, ap, _∙_}
 use mathlib.Core.List.{List, [], _∷_, map}
 use mathlib.Core.Option.{Option, none, some}
-use Prim.Native.Nat.{ℕ, zero, suc, _≤_, _<_}
+use Prim.Native.Nat.{ℕ, zero, suc, _+_, _≤_, _<_}
 use native.Mathlib.Decide.{ℕ-discrete}
 use native.Mathlib.Omega.{arith}
 use lib.Dec.{eqb, ltb}
 use borrow.Author.Tests.{eqb-true, eqb-false, eq-eqb, ltb-true, ltb-false}
-use lib.ListN.{length, getD, getElem?, List·getD-eq-default}
+use lib.ListN.{length, getD, List·getD-eq-default}
 use Rattle.rules.specs.Table.{wordAt}
-use Rattle.rules.specs.Requests.{Operation, operations, kept, decodeRequest}
+use Rattle.rules.specs.Requests.{Operation, operations, operationOf, kept, decodeRequest}
 use Rattle.rules.specs.declared.Request.{Request}
 use Rattle.rules.specs.declared.Decoded.{Decoded}
 use Rattle.rules.specs.declared.Decoded.the-variants.{Asked, Bad}
@@ -20,7 +20,7 @@ use Rattle.request.specs.Written.{written}
 use Rattle.request.specs.Trips.{Bytes}
 use Rattle.request.proofs.Parts.{Kept, Parts, parts-asked, parts-of}
 use Rattle.request.proofs.Trips.{trips}
-use Rattle.promises.specs.Malformed.{uses, has, used, Malformed, notTwelve, unknown, third, unused, Decodes}
+use Rattle.promises.specs.Malformed.{uses, has, used, Malformed, notTwelve, gone, unknown, third, unused, Decodes}
 
 -- THE TWO TABLES
 
@@ -31,26 +31,48 @@ marks u = u .object ∷ u .priority ∷ false ∷ u .number ∷ u .number ∷ u 
 abbrev bytes : List ℕ → List Bool
 bytes ks = has ks 1 ∷ has ks 2 ∷ has ks 3 ∷ has ks 4 ∷ has ks 5 ∷ has ks 6 ∷ has ks 7 ∷ has ks 8 ∷ has ks 9 ∷ has ks 10 ∷ has ks 11 ∷ []
 
-agree : map marks operations ≡ map bytes uses
-unfolding uses
+marked : Option Operation → List Bool
+marked none = bytes []
+marked (some u) = marks u
+
+agree : map marked operations ≡ map bytes uses
+unfolding uses marked
 agree = refl
 
-module _ {A B C : Type 0} (f : A → C) (g : B → C) (d : B) where
-  agree-at : (xs : List A) (ys : List B) (i : ℕ) (x : A) → map f xs ≡ map g ys → getElem? xs i ≡ some x → f x ≡ g (getD ys i d)
-  agree-at [] ys i x e h = let z : _≡_ {A = ℕ} 0 1 = cc in absurd (omega arith)
-  agree-at (y ∷ xs) [] i x e h = let z : _≡_ {A = ℕ} 0 1 = cc in absurd (omega arith)
-  agree-at (y ∷ xs) (z ∷ ys) zero x e h = cc
-  agree-at (y ∷ xs) (z ∷ ys) (suc i) x e h = let rest : map f xs ≡ map g ys = cc in agree-at xs ys i x rest h
+module _ {A B C : Type 0} (f : A → C) (g : B → C) (x : A) (y : B) (out : f x ≡ g y) where
+  agree-at : (xs : List A) (ys : List B) (i : ℕ) → map f xs ≡ map g ys → f (getD xs i x) ≡ g (getD ys i y)
+  agree-at [] [] i e = out
+  agree-at [] (b ∷ ys) i e = let z : _≡_ {A = ℕ} 0 1 = cc in absurd (omega arith)
+  agree-at (a ∷ xs) [] i e = let z : _≡_ {A = ℕ} 0 1 = cc in absurd (omega arith)
+  agree-at (a ∷ xs) (b ∷ ys) zero e = cc
+  agree-at (a ∷ xs) (b ∷ ys) (suc i) e = let rest : map f xs ≡ map g ys = cc in agree-at xs ys i rest
 
-some-below : {A : Type 0} (l : List A) (i : ℕ) (x : A) → getElem? l i ≡ some x → i < length l
-some-below [] i x h = let z : _≡_ {A = ℕ} 0 1 = cc in absurd (omega arith)
-some-below (y ∷ l) zero x h = omega arith
-some-below (y ∷ l) (suc i) x h = let r = some-below l i x h in omega arith
+-- THE NUMBERS THAT HAVE NO OPERATION
 
-none-past : {A : Type 0} (l : List A) (i : ℕ) → getElem? l i ≡ none → length l ≤ i
-none-past [] i h = omega arith
-none-past (y ∷ l) zero h = let z : _≡_ {A = ℕ} 0 1 = cc in absurd (omega arith)
-none-past (y ∷ l) (suc i) h = let r = none-past l i h in omega arith
+-- the numbers of a table's lines that have none, where the first line's number is i
+holes : ℕ → List (Option Operation) → List ℕ
+holes i [] = []
+holes i (none ∷ us) = i ∷ holes (suc i) us
+holes i (some u ∷ us) = holes (suc i) us
+
+hole-at : (us : List (Option Operation)) (i j k : ℕ) → k ≡ i + j → j < length us → getD us j none ≡ none → has (holes i us) k ≡ true
+unfolding holes
+hole-at [] i j k e h n = absurd (omega arith)
+hole-at (none ∷ us) i zero k e h n = rw (eq-eqb k i (omega arith))
+hole-at (none ∷ us) i (suc j) k e h n = rw (hole-at us (suc i) j k (omega arith) (omega arith) n) (or-true (eqb k i))
+hole-at (some u ∷ us) i zero k e h n = let z : _≡_ {A = ℕ} 0 1 = cc in absurd (omega arith)
+hole-at (some u ∷ us) i (suc j) k e h n = hole-at us (suc i) j k (omega arith) (omega arith) n
+
+only-3 : holes 0 operations ≡ 3 ∷ []
+unfolding holes
+only-3 = refl
+
+-- a number has none exactly if it is 3 or above 24
+none-of : (k : ℕ) → operationOf k ≡ none → k ≤ 24 → k ≡ 3
+none-of k n h = eqb-true k 3 (sym (or-false (eqb k 3)) ∙ rw only-3 at (hole-at operations 0 k k (omega arith) (omega arith) n))
+
+not-some : {A : Type 0} (x : A) → none ≡ some x → ⊥
+not-some x e = let z : _≡_ {A = ℕ} 0 1 = cc in omega arith
 
 -- FIELDS
 
@@ -64,8 +86,9 @@ kept-means false x k e = eqb-true x 0 k
 
 module _ (r : List ℕ) where
   -- the line of a record's operation marks what the operation uses
-  mark-of : (u : Operation) → getElem? operations (getD r 0 0) ≡ some u → marks u ≡ bytes (getD uses (getD r 0 0) [])
-  mark-of u h = agree-at marks bytes [] operations uses (getD r 0 0) u agree h
+  mark-of : (u : Operation) → operationOf (getD r 0 0) ≡ some u → marks u ≡ bytes (getD uses (getD r 0 0) [])
+  unfolding marked
+  mark-of u h = ap marked (sym h) ∙ agree-at marked bytes none [] refl operations uses (getD r 0 0) agree
 
   -- A RECORD THAT ASKS: every byte that its operation does not use is zero
 
@@ -99,7 +122,8 @@ module _ (r : List ℕ) where
 
     well : Malformed r → ⊥
     well (notTwelve h) = h (x .long)
-    well (unknown h) = omega (arith, some-below operations (getD r 0 0) (x .fields .by) (x .fields .there))
+    well (gone h) = not-some (x .fields .by) (rw h at (x .fields .there))
+    well (unknown h) = not-some (x .fields .by) (sym (List·getD-eq-default operations none {n = getD r 0 0} (omega arith)) ∙ x .fields .there)
     well (third h) = h (x .zeroed)
     well (unused k low e h) = h (zeros k low e)
 
@@ -108,11 +132,11 @@ module _ (r : List ℕ) where
   abbrev Zeroed : ℕ → Type 0
   Zeroed n = (k : ℕ) → 1 ≤ k → k ≤ n → used (getD r 0 0) k ≡ false → getD r k 0 ≡ 0
 
-  parts : length r ≡ 12 → getD r 0 0 ≤ 22 → getD r 3 0 ≡ 0 → Zeroed 11 → Parts r
-  parts long low z none-set = record { long = long; zeroed = z; fields = of (getElem? operations (getD r 0 0)) refl }
+  parts : length r ≡ 12 → (getD r 0 0 ≡ 3 → ⊥) → getD r 0 0 ≤ 24 → getD r 3 0 ≡ 0 → Zeroed 11 → Parts r
+  parts long there low z none-set = record { long = long; zeroed = z; fields = of (operationOf (getD r 0 0)) refl }
     where
-      of : (m : Option Operation) → getElem? operations (getD r 0 0) ≡ m → Kept (getD r 0 0) (getD r 1 0) (getD r 2 0) (wordAt r 4) (wordAt r 8)
-      of none h = absurd (omega (arith, none-past operations (getD r 0 0) h))
+      of : (m : Option Operation) → operationOf (getD r 0 0) ≡ m → Kept (getD r 0 0) (getD r 1 0) (getD r 2 0) (wordAt r 4) (wordAt r 8)
+      of none h = absurd (there (none-of (getD r 0 0) h low))
       of (some u) h =
           let mark : (j : ℕ) → getD (bytes (getD uses (getD r 0 0) [])) j false ≡ getD (marks u) j false = λ j. ap (λ l. getD l j false) (sym (mark-of u h)) in
           record {
@@ -148,14 +172,17 @@ module _ (r : List ℕ) where
   ill : decodeRequest r ≡ Bad → Malformed r
   ill bad = elim (test (eqb (length r) 12)) [
     | isnt e ↦ notTwelve (eqb-false (length r) 12 e)
-    | is long ↦ elim (test (ltb 22 (getD r 0 0))) [
-      | is e ↦ unknown (ltb-true 22 (getD r 0 0) e)
-      | isnt low ↦ elim (test (eqb (getD r 3 0) 0)) [
-        | isnt e ↦ third (eqb-false (getD r 3 0) 0 e)
-        | is z ↦ look 11 (λ rest.
-            let x = parts (eqb-true (length r) 12 long) (ltb-false 22 (getD r 0 0) low) (eqb-true (getD r 3 0) 0 z) rest in
-            let c : _≡_ {A = ℕ} 0 1 = cc (bad, parts-asked r x) in
-            absurd (omega arith))
+    | is long ↦ elim (test (eqb (getD r 0 0) 3)) [
+      | is e ↦ gone (eqb-true (getD r 0 0) 3 e)
+      | isnt there ↦ elim (test (ltb 24 (getD r 0 0))) [
+        | is e ↦ unknown (ltb-true 24 (getD r 0 0) e)
+        | isnt low ↦ elim (test (eqb (getD r 3 0) 0)) [
+          | isnt e ↦ third (eqb-false (getD r 3 0) 0 e)
+          | is z ↦ look 11 (λ rest.
+              let x = parts (eqb-true (length r) 12 long) (eqb-false (getD r 0 0) 3 there) (ltb-false 24 (getD r 0 0) low) (eqb-true (getD r 3 0) 0 z) rest in
+              let c : _≡_ {A = ℕ} 0 1 = cc (bad, parts-asked r x) in
+              absurd (omega arith))
+        ]
       ]
     ]
   ]

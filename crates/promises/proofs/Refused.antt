@@ -13,7 +13,7 @@ use Rattle.rules.specs.Basic.{if_then_else_}
 use Rattle.rules.specs.State.{State, free, freeSem, at, semAt}
 use Rattle.rules.specs.Lines.{waiters, same, waitLine, inLine}
 use Rattle.rules.specs.Waiting.{Step, refuse, accept, block, mayNotWait, neverWait, mustWait}
-use Rattle.rules.specs.Threads.{bound, doYield, doCreate, doDelete, doSet, doSuspend, doResume, doDelay, breakOff, doCancel}
+use Rattle.rules.specs.Threads.{bound, doYield, doCreate, doDelete, doSuspend, doResume, doDelay, breakOff, doCancel, doSetPriority, doSetTurn}
 use Rattle.rules.specs.Mail.{doSend, doSendFromInterrupt, doReceive}
 use Rattle.rules.specs.Semaphores.{noSem, servedBy, tooMany, posted, doMake, doDrop, doPend, doAbort, doPost, doPostFromInterrupt}
 use Rattle.rules.specs.Time.{doLock, doUnlock, doTick, outcomeAnswer, doOutcome}
@@ -161,11 +161,10 @@ posts s k n = elim (test (noSem s k)) [
     last false false = accepts s _ refl
 
 pub says : (s : State) (q : Request) → Says s (refusal s q) (step s q)
-unfolding refusal firstGiven step doYield doCreate doDelete doSet doSuspend doResume doDelay doCancel breakOff doSend doSendFromInterrupt doReceive doMake doDrop doPend doAbort doPost doPostFromInterrupt doLock doUnlock doTick doOutcome doTicks doNearest block
+unfolding refusal firstGiven step doYield doCreate doDelete doSuspend doResume doDelay doCancel doSetPriority doSetTurn breakOff doSend doSendFromInterrupt doReceive doMake doDrop doPend doAbort doPost doPostFromInterrupt doLock doUnlock doTick doOutcome doTicks doNearest block
 says s Ask.Yield = if-case (Says s none) (ltb 0 (s .lock)) (λ e. accepts s _ refl) (λ e. accepts s _ refl)
 says s (Ask.Create i p n) = search (rung, accepts) depth 8
 says s (Ask.Delete i) = search (rung, accepts, thread-free, bound-is) depth 8
-says s (Ask.Set i p n) = search (rung, split, accepts, thread-free) depth 8
 says s (Ask.Suspend i) = search (rung, split, accepts, thread-free, bound-is) depth 8
 says s (Ask.Resume i) = search (rung, split, accepts, thread-free) depth 8
 says s (Ask.Delay n) = search (rung, accepts, may-not) depth 8
@@ -185,3 +184,5 @@ says s Ask.Tick = accepts s _ refl
 says s (Ask.Outcome i) = search (rung, accepts, thread-free, outcome-none) depth 8
 says s (Ask.Ticks n) = search (rung, accepts) depth 8
 says s Ask.Nearest = accepts s _ refl
+says s (Ask.SetPriority i p) = search (rung, split, accepts, thread-free) depth 8
+says s (Ask.SetTurn i n) = search (rung, accepts, thread-free) depth 8

@@ -13,7 +13,7 @@ use Rattle.rules.specs.State.{State}
 use Rattle.rules.specs.Table.{decode}
 use Rattle.rules.specs.Door.{door}
 use Rattle.laws.proofs.Split.{and-true, and-both, and-off}
-use Rattle.fairness.specs.Run.{Event, Deed, tick, yield, other, change, create, sleep, deed, accepted, readyAt, sameSet, disturbs, undisturbed}
+use Rattle.fairness.specs.Run.{Event, Deed, tick, yield, other, setPriority, setTurn, create, sleep, deed, accepted, readyAt, sameSet, disturbs, undisturbed}
 use Rattle.fairness.specs.Doors.{Door, runOf}
 use Rattle.fairness.specs.Fair.{moves, steady}
 use Rattle.fairness.proofs.Fair.{fairness}
@@ -27,7 +27,8 @@ moves-not : (a : Bool) (p : ℕ) (s : State) (k : Deed) → not (a && disturbs p
 moves-not false p s k e = refl
 moves-not true p s tick e = refl
 moves-not true p s yield e = rw (not-true (readyAt p s (s .running)) e, and-off)
-moves-not true p s (change i) e = e
+moves-not true p s (setPriority i) e = refl
+moves-not true p s (setTurn i) e = e
 moves-not true p s (create i) e = refl
 moves-not true p s other e = refl
 moves-not true p s (sleep n) e = e

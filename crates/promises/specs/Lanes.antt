@@ -17,7 +17,7 @@ use Rattle.rules.specs.Sound.{SoundTable}
 use Rattle.rules.specs.Door.{door, freshTable, Handed}
 use Rattle.rules.specs.declared.Thread.{Thread}
 use Rattle.rules.specs.declared.Request.{Request}
-use Rattle.rules.specs.declared.Request.the-variants.{Yield, Create, Set, Suspend, Resume, Tick}
+use Rattle.rules.specs.declared.Request.the-variants.{Yield, Create, Suspend, Resume, Tick, SetTurn}
 use Rattle.fairness.specs.Run.{Event, readyAt, endOf, sameSet, undisturbed, sumTurns, chargedRank}
 use Rattle.fairness.specs.Doors.{runOf}
 use Rattle.lanes.specs.Lag.{account, sumOver, lag}
@@ -116,7 +116,7 @@ pub record LagsReckoned : Type 0 where
   pub chargedBefore : reckoned (record { before = Create 1 5 2 ∷ Tick ∷ Create 2 5 3 ∷ []; after = ticks 5 }) ≡ gives true true false true (lane 1 3 (pos 3) ∷ lane 2 3 (negsuc 2) ∷ [])
   -- thread 2 yields after a tick
   pub yielded : reckoned (unequal (Tick ∷ Tick ∷ Tick ∷ Yield ∷ Tick ∷ Tick ∷ [])) ≡ gives true false true true (lane 1 4 (pos 10) ∷ lane 2 1 (negsuc 9) ∷ [])
-  -- thread 1 is set to the settings that it has
-  pub set : reckoned (unequal (Tick ∷ Set 1 5 2 ∷ Tick ∷ Tick ∷ Tick ∷ Tick ∷ [])) ≡ gives true false true true (lane 1 3 (pos 5) ∷ lane 2 2 (negsuc 4) ∷ [])
+  -- thread 1 is given the turn that it has
+  pub turnSet : reckoned (unequal (Tick ∷ SetTurn 1 2 ∷ Tick ∷ Tick ∷ Tick ∷ Tick ∷ [])) ≡ gives true false true true (lane 1 3 (pos 5) ∷ lane 2 2 (negsuc 4) ∷ [])
   -- thread 2 is suspended and resumed
   pub suspended : reckoned (unequal (Tick ∷ Tick ∷ Tick ∷ Suspend 2 ∷ Resume 2 ∷ Tick ∷ Tick ∷ [])) ≡ gives false true true true (lane 1 4 (pos 10) ∷ lane 2 1 (negsuc 9) ∷ [])

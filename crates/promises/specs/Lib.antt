@@ -8,6 +8,7 @@ pub mod Demand1
 pub mod Demand2
 pub mod Demand3
 pub mod Slept
+pub mod FormerSet
 pub mod Figures
 pub mod Rounds
 pub mod Lanes

@@ -1,5 +1,5 @@
 -- Document 01's condition for −8, written down apart from the decoder, byte by byte, so that it can disagree with it.
--- "−8: record not 12 bytes, operation above 20, byte 3 or an unused field not zero"; order 7: "−8 now starts above 22"
+-- "−8: record not 12 bytes, operation above 20, byte 3 or an unused field not zero"; order 8: "−8 for 3 and above 24"
 use mathlib.Core.Bool.{Bool, false, _||_}
 use mathlib.Core.Path.{_≡_}
 use mathlib.Core.List.{List, [], _∷_, _++_}
@@ -35,8 +35,8 @@ uses =
     ∷ (object ++ priority ++ number)
     -- 2 Delete: "object"
     ∷ object
-    -- 3 Set: "object, priority, number (turn)"
-    ∷ (object ++ priority ++ number)
+    -- order 8: "Operation 3 is gone."
+    ∷ []
     -- 4 Suspend: "object"
     ∷ object
     -- 5 Resume: "object"
@@ -72,6 +72,9 @@ uses =
     -- order 7: "Operation 21 takes a number", and 22 nothing
     ∷ number
     ∷ []
+    -- order 8: "23 uses object and priority, 24 object and number."
+    ∷ (object ++ priority)
+    ∷ (object ++ number)
     ∷ []
 
 abbrev pub has : List ℕ → ℕ → Bool
@@ -85,8 +88,9 @@ used operation k = has (getD uses operation []) k
 pub data Malformed (r : List ℕ) : Type 0 where
   -- "record not 12 bytes"
   notTwelve : (length r ≡ 12 → ⊥) → Malformed r
-  -- "operation above 20"; order 7: "−8 now starts above 22"
-  unknown : 22 < getD r 0 0 → Malformed r
+  -- "operation above 20"; order 8: "−8 for 3 and above 24"
+  gone : getD r 0 0 ≡ 3 → Malformed r
+  unknown : 24 < getD r 0 0 → Malformed r
   -- "byte 3 [..] not zero"
   third : (getD r 3 0 ≡ 0 → ⊥) → Malformed r
   -- "an unused field not zero": a byte behind the operation, in no field that the operation uses

@@ -24,7 +24,6 @@ abbrev pub order : Request → List Refusal
 order Ask.Yield = []
 order (Ask.Create i p n) = BadPriority ∷ BadTicks ∷ BadThread ∷ []
 order (Ask.Delete i) = BadThread ∷ BadOperation ∷ []
-order (Ask.Set i p n) = BadPriority ∷ BadTicks ∷ BadThread ∷ BadOperation ∷ []
 order (Ask.Suspend i) = BadThread ∷ BadState ∷ BadOperation ∷ []
 order (Ask.Resume i) = BadThread ∷ BadState ∷ []
 order (Ask.Delay n) = BadTicks ∷ BadOperation ∷ []
@@ -45,6 +44,9 @@ order (Ask.Outcome i) = BadThread ∷ []
 -- order 7: "−3 for 21 with 0 or above 99,999", and nothing for 22
 order (Ask.Ticks n) = BadTicks ∷ []
 order Ask.Nearest = []
+-- order 8: "Refusals: 23: −2, −1, −5; 24: −3, −1, −5"
+order (Ask.SetPriority i p) = BadPriority ∷ BadThread ∷ BadOperation ∷ []
+order (Ask.SetTurn i n) = BadTicks ∷ BadThread ∷ BadOperation ∷ []
 
 -- THE SECOND TABLE: "Given exactly when"
 
@@ -65,7 +67,6 @@ abbrev pub namesOf : Request → Names
 namesOf Ask.Yield = names nothing 0 1
 namesOf (Ask.Create i p n) = names (newThread i) p n
 namesOf (Ask.Delete i) = names (thread i) 0 1
-namesOf (Ask.Set i p n) = names (thread i) p n
 namesOf (Ask.Suspend i) = names (thread i) 0 1
 namesOf (Ask.Resume i) = names (thread i) 0 1
 namesOf (Ask.Delay n) = names nothing 0 n
@@ -85,6 +86,8 @@ namesOf Ask.Tick = names nothing 0 1
 namesOf (Ask.Outcome i) = names (thread i) 0 1
 namesOf (Ask.Ticks n) = names nothing 0 n
 namesOf Ask.Nearest = names nothing 0 1
+namesOf (Ask.SetPriority i p) = names (thread i) p 1
+namesOf (Ask.SetTurn i n) = names (thread i) 0 n
 
 -- "−1: thread number above 15, or free (Create: in use)": 15 is the last thread of the board
 abbrev pub minus1 : State → Named → Bool
@@ -107,7 +110,6 @@ abbrev pub minus4 : State → Request → Bool
 minus4 s Ask.Yield = false
 minus4 s (Ask.Create i p n) = false
 minus4 s (Ask.Delete i) = false
-minus4 s (Ask.Set i p n) = false
 minus4 s (Ask.Suspend i) = at (s .threads) i .suspended
 minus4 s (Ask.Resume i) = not (at (s .threads) i .suspended)
 minus4 s (Ask.Delay n) = false
@@ -127,6 +129,8 @@ minus4 s Ask.Tick = false
 minus4 s (Ask.Outcome i) = false
 minus4 s (Ask.Ticks n) = false
 minus4 s Ask.Nearest = false
+minus4 s (Ask.SetPriority i p) = false
+minus4 s (Ask.SetTurn i n) = false
 
 abbrev pub locked : State → Bool
 locked s = not (eqb (s .lock) 0)
@@ -160,8 +164,6 @@ minus5 s Ask.Yield = false
 minus5 s (Ask.Create i p n) = false
 -- "−5 for Init, or the running thread under lock."
 minus5 s (Ask.Delete i) = eqb i 0 || (eqb i (s .running) && locked s)
--- "−5 for Init."
-minus5 s (Ask.Set i p n) = eqb i 0
 -- "−5 for Init, or the running thread under lock."
 minus5 s (Ask.Suspend i) = eqb i 0 || (eqb i (s .running) && locked s)
 minus5 s (Ask.Resume i) = false
@@ -191,6 +193,9 @@ minus5 s Ask.Tick = false
 minus5 s (Ask.Outcome i) = false
 minus5 s (Ask.Ticks n) = false
 minus5 s Ask.Nearest = false
+-- order 8: "Init gets −5 in both"
+minus5 s (Ask.SetPriority i p) = eqb i 0
+minus5 s (Ask.SetTurn i n) = eqb i 0
 
 abbrev pub given : State → Request → Refusal → Bool
 given s q BadThread = minus1 s (namesOf q .object)

@@ -1,6 +1,7 @@
 -- Demand 3 at closed runs, from a table where threads 1 and 2 are ready at rank 5 with turns 2 and 3: a run that meets the premises while
 -- a higher rank breaks in, the lock is on and ticks are refused; one of order 7, whose part begins and ends inside an operation 21; and a run
--- each with a yield, a change of settings and a set that changes, the last also inside an operation 21, in which the claim fails.
+-- each with a yield, a turn that is set and a set that changes, the last also inside an operation 21, in which the claim fails. Order 8:
+-- one with a priority that is set and stays the same, in which it does not.
 use mathlib.Core.Bool.{Bool, true, false}
 use mathlib.Core.Path.{_≡_}
 use mathlib.Core.List.{List, [], _∷_, _++_, map}
@@ -12,7 +13,7 @@ use Rattle.rules.specs.Requests.{tickRecord}
 use Rattle.rules.specs.Trace.{cleanly}
 use Rattle.rules.specs.Door.{door, freshTable, Handed, tableAfter}
 use Rattle.rules.specs.declared.Request.{Request}
-use Rattle.rules.specs.declared.Request.the-variants.{Yield, Create, Delete, Set, Suspend, Resume, Delay, Lock, Unlock, Tick, Ticks}
+use Rattle.rules.specs.declared.Request.the-variants.{Yield, Create, Delete, Suspend, Resume, Delay, Lock, Unlock, Tick, Ticks, SetPriority, SetTurn}
 use Rattle.request.specs.Written.{written}
 use Rattle.fairness.specs.Doors.{runOf}
 use Rattle.promises.specs.Figures.{asks, Run, Share, share, Figures, figures, ownTurns}
@@ -76,8 +77,10 @@ table =
     ∷ case sleptThrough true true (share 1 2 2 ∷ share 2 3 3 ∷ [])
     -- thread 2 yields after a tick
     ∷ case (whole (Tick ∷ Tick ∷ Tick ∷ Yield ∷ Tick ∷ Tick ∷ [])) true false (share 1 2 4 ∷ share 2 3 1 ∷ [])
-    -- thread 1 is set to the settings that it has
-    ∷ case (whole (Tick ∷ Set 1 5 2 ∷ Tick ∷ Tick ∷ Tick ∷ Tick ∷ [])) true false (share 1 2 3 ∷ share 2 3 2 ∷ [])
+    -- thread 1 is given the turn that it has
+    ∷ case (whole (Tick ∷ SetTurn 1 2 ∷ Tick ∷ Tick ∷ Tick ∷ Tick ∷ [])) true false (share 1 2 3 ∷ share 2 3 2 ∷ [])
+    -- thread 1 is given the priority that it has: the premise names operation 23 and leaves this run out, in which the shares are right
+    ∷ case (whole (Tick ∷ SetPriority 1 5 ∷ Tick ∷ Tick ∷ Tick ∷ Tick ∷ [])) true false (share 1 2 2 ∷ share 2 3 3 ∷ [])
     -- thread 2 is suspended and resumed: the set is the same in the end, but not after each step
     ∷ case (whole (Tick ∷ Tick ∷ Tick ∷ Suspend 2 ∷ Resume 2 ∷ Tick ∷ Tick ∷ [])) false true (share 1 2 4 ∷ share 2 3 1 ∷ [])
     -- thread 3 joins them

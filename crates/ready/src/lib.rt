@@ -7,7 +7,7 @@ ghost use mathlib.Core.Bool.{true};
 ghost use mathlib.Core.Path.{_≡_};
 ghost use Prim.Native.Nat.{ℕ, _+_, _^_, _≤_, _<_};
 ghost use Rattle.rules.specs.Board.{printer, topPriority};
-ghost use Rattle.rules.specs.State.{State, free, at, edit, withWait, withSuspended, withSettings};
+ghost use Rattle.rules.specs.State.{State, free, at, edit, withWait, withSuspended, withPriority};
 ghost use Rattle.rules.specs.Lines.{ready, isFirst, leave, top, settle};
 ghost use Rattle.rules.specs.Table.{decode};
 ghost use Rattle.rules.specs.Threads.{stopped};
@@ -89,12 +89,12 @@ pub fn set_stopped(t: &mut [u8], i: usize, left: u32)
     mend(t, i, left);
 }
 
-// The settings of thread `i`: its priority and its turn.
-pub fn set_settings(t: &mut [u8], i: usize, priority: u8, turn: u32, left: u32)
+// The priority of thread `i`.
+pub fn set_priority(t: &mut [u8], i: usize, priority: u8, left: u32)
     requires { ⌜ (i < printer .threads) × Whole printer (now t) × ((s : State) → decode printer (now t) ≡ s → left ≡ lastBit i (s .threads)) ⌝ }
-    ensures { λ _. ⌜ Becomes printer (now (t .entry)) (now (t .exit)) (onThreads (edit i (withSettings priority turn))) ⌝ }
+    ensures { λ _. ⌜ Becomes printer (now (t .entry)) (now (t .exit)) (onThreads (edit i (withPriority priority))) ⌝ }
 {
-    records::set_settings(t, i, priority, turn);
+    records::set_priority(t, i, priority);
     mend(t, i, left);
 }
 

@@ -11,7 +11,7 @@ ghost use Prim.Native.Nat.{ℕ, _*_, _<_};
 ghost use lib.ListN.{length, set};
 ghost use Rattle.rules.specs.Basic.{bit};
 ghost use Rattle.rules.specs.Board.{printer, recordLength, tableLength};
-ghost use Rattle.rules.specs.State.{State, free, at, semAt, edit, withPlace, withWait, withCounter, withSuspended, withOutcome, withMail, withSettings, withRunning, withLock};
+ghost use Rattle.rules.specs.State.{State, free, at, semAt, edit, withPlace, withWait, withCounter, withSuspended, withOutcome, withMail, withPriority, withTurn, withRunning, withLock};
 ghost use Rattle.rules.specs.Table.{kindOf, objectOf, waitOf, outcomeByte, outcomeOf, wordAt, decode};
 ghost use Rattle.records.specs.Fields.{withUsed};
 ghost use Rattle.layout.specs.Bytes.{wordFrom};
@@ -190,6 +190,14 @@ pub fn set_counter(t: &mut [u8], i: usize, counter: u32)
     words::put_word(t, i * RECORD + field::COUNTER, counter);
 }
 
+// The turn of thread `i`.
+pub fn set_turn(t: &mut [u8], i: usize, turn: u32)
+    requires { ⌜ (i < printer .threads) × Whole printer (now t) ⌝ }
+    ensures { λ _. ⌜ Becomes printer (now (t .entry)) (now (t .exit)) (onThreads (edit i (withTurn turn))) ⌝ }
+{
+    words::put_word(t, i * RECORD + field::TURN, turn);
+}
+
 // The outcome of thread `i`, with its parcel.
 pub fn set_outcome(t: &mut [u8], i: usize, o: Outcome, parcel: u32)
     requires { ⌜ (i < printer .threads) × Whole printer (now t) ⌝ }
@@ -231,14 +239,12 @@ pub fn set_suspended(t: &mut [u8], i: usize, suspended: bool)
     t[i * RECORD + field::SUSPENDED] = flag(suspended);
 }
 
-// The settings of thread `i`: its priority and its turn.
-pub fn set_settings(t: &mut [u8], i: usize, priority: u8, turn: u32)
+// The priority of thread `i`.
+pub fn set_priority(t: &mut [u8], i: usize, priority: u8)
     requires { ⌜ (i < printer .threads) × Laid printer (now t) ⌝ }
-    ensures { λ _. ⌜ Changes printer (now (t .entry)) (now (t .exit)) (onThreads (edit i (withSettings priority turn))) ⌝ }
+    ensures { λ _. ⌜ Changes printer (now (t .entry)) (now (t .exit)) (onThreads (edit i (withPriority priority))) ⌝ }
 {
-    let base = i * RECORD;
-    t[base + field::PRIORITY] = priority;
-    words::put_word(t, base + field::TURN, turn);
+    t[i * RECORD + field::PRIORITY] = priority;
 }
 
 // Whether record `i` is in use.
@@ -259,8 +265,9 @@ pub fn store_thread(t: &mut [u8], i: usize, th: Thread)
     set_place(t, i, th.place);
     set_mail(t, i, th.full, th.value);
     set_outcome(t, i, o, th.parcel);
+    set_turn(t, i, th.turn);
     set_used(t, i, th.used);
-    set_settings(t, i, th.priority, th.turn);
+    set_priority(t, i, th.priority);
     set_suspended(t, i, th.suspended);
     set_wait(t, i, w);
 }

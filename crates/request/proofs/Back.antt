@@ -1,5 +1,5 @@
 -- A request that is written is read back, whatever its fields are: four bytes of a word say the word, and the table's line for its
--- number keeps its fields. So the 23 operations and their fields are told apart. Assumes nothing.
+-- number keeps its fields. So the 24 operations and their fields are told apart. Assumes nothing.
 use mathlib.Core.Path.{_≡_, refl}
 use Rattle.rules.specs.Requests.{requestOf, decodeRequest}
 use Rattle.rules.specs.declared.Decoded.the-variants.{Asked}
@@ -13,7 +13,6 @@ unfolding requestOf
 fields-asked Ask.Yield = refl
 fields-asked (Ask.Create i p n) = refl
 fields-asked (Ask.Delete i) = refl
-fields-asked (Ask.Set i p n) = refl
 fields-asked (Ask.Suspend i) = refl
 fields-asked (Ask.Resume i) = refl
 fields-asked (Ask.Delay n) = refl
@@ -33,6 +32,8 @@ fields-asked Ask.Tick = refl
 fields-asked (Ask.Outcome i) = refl
 fields-asked (Ask.Ticks n) = refl
 fields-asked Ask.Nearest = refl
+fields-asked (Ask.SetPriority i p) = refl
+fields-asked (Ask.SetTurn i n) = refl
 
 pub decode-written : (r : Request) → decodeRequest (written r) ≡ Asked r
 unfolding decodeRequest written

@@ -1,4 +1,4 @@
--- A record asks a request exactly when it has 12 bytes, byte 3 is zero, the table has a line for its operation and each field is used or
+-- A record asks a request exactly when it has 12 bytes, byte 3 is zero, an operation has its number and each field is used or
 -- zero: these are the decoder's tests, one by one. Assumes nothing.
 use mathlib.Core.Path.{_≡_, refl}
 use mathlib.Core.Bool.{Bool, true, false, _&&_}
@@ -7,11 +7,11 @@ use mathlib.Core.Option.{Option, none, some}
 use Prim.Native.Nat.{ℕ}
 use native.Mathlib.Omega.{arith}
 use lib.Dec.{eqb}
-use lib.ListN.{length, getD, getElem?}
+use lib.ListN.{length, getD}
 use borrow.Author.Tests.{eqb-true, eq-eqb}
 use Rattle.rules.specs.Basic.{if_then_else_}
 use Rattle.rules.specs.Table.{wordAt}
-use Rattle.rules.specs.Requests.{Operation, operations, requestLength, kept, askedBy, requestOf, decodeRequest}
+use Rattle.rules.specs.Requests.{Operation, operationOf, requestLength, kept, askedBy, requestOf, decodeRequest}
 use Rattle.rules.specs.declared.Request.{Request}
 use Rattle.rules.specs.declared.Decoded.{Decoded}
 use Rattle.rules.specs.declared.Decoded.the-variants.{Asked, Bad}
@@ -20,7 +20,7 @@ use Rattle.laws.proofs.Split.{and-true}
 -- an operation of the table, and fields that it uses or that are zero
 pub record Kept (operation o p n d : ℕ) : Type 0 where
   pub by : Operation
-  pub there : getElem? operations operation ≡ some by
+  pub there : operationOf operation ≡ some by
   pub object : kept (by .object) o ≡ true
   pub priority : kept (by .priority) p ≡ true
   pub number : kept (by .number) n ≡ true
@@ -49,7 +49,7 @@ passed : (b : Bool) (x : Decoded) (q : Request) → (if b then x else Bad) ≡ A
 passed true x q e = (refl, e)
 passed false x q e = absurd (asked-not q e)
 
-kept-of : (m : Option Operation) (operation o p n d : ℕ) (q : Request) → getElem? operations operation ≡ m → askedBy m o p n d ≡ Asked q
+kept-of : (m : Option Operation) (operation o p n d : ℕ) (q : Request) → operationOf operation ≡ m → askedBy m o p n d ≡ Asked q
     → Kept operation o p n d
 kept-of none operation o p n d q h e = absurd (asked-not q e)
 kept-of (some u) operation o p n d q h e =
@@ -67,5 +67,5 @@ parts-of r q e =
     record {
       long = eqb-true (length r) requestLength (t .0);
       zeroed = eqb-true (getD r 3 0) 0 (t .1);
-      fields = kept-of (getElem? operations (getD r 0 0)) (getD r 0 0) (getD r 1 0) (getD r 2 0) (wordAt r 4) (wordAt r 8) q refl (p .1);
+      fields = kept-of (operationOf (getD r 0 0)) (getD r 0 0) (getD r 1 0) (getD r 2 0) (wordAt r 4) (wordAt r 8) q refl (p .1);
     }

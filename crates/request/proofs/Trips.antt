@@ -3,10 +3,10 @@
 use mathlib.Core.Path.{_≡_, refl, sym, ap, _∙_}
 use mathlib.Core.Bool.{Bool, true, false}
 use mathlib.Core.List.{List, [], _∷_}
-use mathlib.Core.Option.{some}
+use mathlib.Core.Option.{Option, none, some}
 use Prim.Native.Nat.{ℕ, zero, suc, _+_}
 use native.Mathlib.Omega.{arith}
-use lib.ListN.{length, getD, getElem?}
+use lib.ListN.{length, getD}
 use borrow.Author.Tests.{eqb-true}
 use Rattle.rules.specs.Basic.{if_then_else_}
 use Rattle.rules.specs.Table.{wordAt}
@@ -58,16 +58,22 @@ only-kept : (used : Bool) (field : ℕ) → kept used field ≡ true → only us
 only-kept true field e = refl
 only-kept false field e = sym (eqb-true field 0 e)
 
--- a table's lines with their numbers, the first of which is i
-numbered : (ℕ → Operation → Fields) → ℕ → List Operation → List Fields
-numbered f i [] = []
-numbered f i (u ∷ us) = f i u ∷ numbered f (suc i) us
+-- what is said of an operation, where there is one
+said-of : (Operation → Fields) → Option Operation → Option Fields
+said-of f none = none
+said-of f (some u) = some (f u)
 
-numbered-at : (f g : ℕ → Operation → Fields) (us : List Operation) (i j k : ℕ) (u : Operation) → k ≡ i + j → numbered f i us ≡ numbered g i us
-    → getElem? us j ≡ some u → f k u ≡ g k u
-unfolding numbered
+-- a table's lines with their numbers, the first of which is i
+numbered : (ℕ → Operation → Fields) → ℕ → List (Option Operation) → List (Option Fields)
+numbered f i [] = []
+numbered f i (u ∷ us) = said-of (f i) u ∷ numbered f (suc i) us
+
+numbered-at : (f g : ℕ → Operation → Fields) (us : List (Option Operation)) (i j k : ℕ) (u : Operation) → k ≡ i + j → numbered f i us ≡ numbered g i us
+    → getD us j none ≡ some u → f k u ≡ g k u
+unfolding numbered said-of
 numbered-at f g [] i j k u e q h = let z : _≡_ {A = ℕ} 0 1 = cc in absurd (omega arith)
-numbered-at f g (v ∷ us) i zero k u e q h = let n : k ≡ i = omega arith in cc
+numbered-at f g (none ∷ us) i zero k u e q h = let z : _≡_ {A = ℕ} 0 1 = cc in absurd (omega arith)
+numbered-at f g (some v ∷ us) i zero k u e q h = let n : k ≡ i = omega arith in cc
 numbered-at f g (v ∷ us) i (suc j) k u e q h =
     let rest : numbered f (suc i) us ≡ numbered g (suc i) us = cc in
     numbered-at f g us (suc i) j k u (omega arith) rest h
@@ -81,7 +87,7 @@ module _ (o p n d : ℕ) where
 
   -- line by line, the request that a line makes has the line's number and its fields
   every : numbered asked 0 operations ≡ numbered said 0 operations
-  unfolding numbered asked said
+  unfolding numbered said-of asked said
   every = refl
 
   fields-made : (operation : ℕ) (k : Kept operation o p n d) → fieldsOf (k .by .asks o p n d) ≡ (operation, o, p, n, d)

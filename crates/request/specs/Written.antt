@@ -10,7 +10,6 @@ abbrev pub fieldsOf : Request → ℕ × ℕ × ℕ × ℕ × ℕ
 fieldsOf Ask.Yield = (0, 0, 0, 0, 0)
 fieldsOf (Ask.Create thread priority turn) = (1, thread, priority, turn, 0)
 fieldsOf (Ask.Delete thread) = (2, thread, 0, 0, 0)
-fieldsOf (Ask.Set thread priority turn) = (3, thread, priority, turn, 0)
 fieldsOf (Ask.Suspend thread) = (4, thread, 0, 0, 0)
 fieldsOf (Ask.Resume thread) = (5, thread, 0, 0, 0)
 fieldsOf (Ask.Delay number) = (6, 0, 0, number, 0)
@@ -30,6 +29,8 @@ fieldsOf Ask.Tick = (19, 0, 0, 0, 0)
 fieldsOf (Ask.Outcome thread) = (20, thread, 0, 0, 0)
 fieldsOf (Ask.Ticks number) = (21, 0, 0, number, 0)
 fieldsOf Ask.Nearest = (22, 0, 0, 0, 0)
+fieldsOf (Ask.SetPriority thread priority) = (23, thread, priority, 0, 0)
+fieldsOf (Ask.SetTurn thread turn) = (24, thread, 0, turn, 0)
 
 -- "Byte 0 operation; 1 object; 2 priority; 3 zero; 4-7 number; 8-11 data."
 abbrev pub recordBytes : ℕ → ℕ → ℕ → ℕ → ℕ → List ℕ

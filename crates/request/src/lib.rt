@@ -40,14 +40,7 @@ pub fn request_of(operation: u8, object: u8, priority: u8, number: u32, parcel: 
             },
         ),
         2 => asked_if(p & n & d, Request::Delete { thread }),
-        3 => asked_if(
-            d,
-            Request::Set {
-                thread,
-                priority,
-                turn,
-            },
-        ),
+        3 => Decoded::Bad,
         4 => asked_if(p & n & d, Request::Suspend { thread }),
         5 => asked_if(p & n & d, Request::Resume { thread }),
         6 => asked_if(o & p & d, Request::Delay { number }),
@@ -74,6 +67,8 @@ pub fn request_of(operation: u8, object: u8, priority: u8, number: u32, parcel: 
         20 => asked_if(p & n & d, Request::Outcome { thread }),
         21 => asked_if(o & p & d, Request::Ticks { number }),
         22 => asked_if(o & p & n & d, Request::Nearest),
+        23 => asked_if(n & d, Request::SetPriority { thread, priority }),
+        24 => asked_if(p & d, Request::SetTurn { thread, turn }),
         _ => Decoded::Bad,
     }
 }

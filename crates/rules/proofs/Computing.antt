@@ -6,7 +6,7 @@ use Rattle.rules.specs.Test.{placeOk, freeOk, usedOk, threadOk, semOk, i
 use Rattle.rules.specs.Answers.{areaOf}
 use Rattle.rules.specs.Requests.{requestOf, decodeRequest}
 use Rattle.rules.specs.Waiting.{endWait, serve, block, mustWait}
-use Rattle.rules.specs.Threads.{doYield, doCreate, deleted, doDelete, doSet, doSuspend, doResume, doDelay, breakOff, doCancel}
+use Rattle.rules.specs.Threads.{doYield, doCreate, deleted, doDelete, doSuspend, doResume, doDelay, breakOff, doCancel, doSetPriority, doSetTurn}
 use Rattle.rules.specs.Mail.{delivered, doSend, doSendFromInterrupt, emptied, doReceive}
 use Rattle.rules.specs.Semaphores.{doMake, doDrop, doPend, doAbort, posted, doPost, doPostFromInterrupt}
 use Rattle.rules.specs.Time.{doLock, doUnlock, charge, charged, countDown, timeouts, doTick, doOutcome}
@@ -15,5 +15,5 @@ use Rattle.rules.specs.Steps.{step}
 use Rattle.rules.specs.Door.{serveDecoded, door, fresh, freshTable, tableAfter}
 
 unfoldable pub behindTheDoor : Unit {0}
-unfolding leave join move topBelow top settle bitsBelow readyWord waitOf outcomeOf threadRow threadOf semRow semOf kernelRow flat encodeWith encode rows decode placeOk freeOk usedOk threadOk semOk initOk kernelOk sound soundTable areaOf requestOf decodeRequest endWait serve block mustWait doYield doCreate deleted doDelete doSet doSuspend doResume doDelay breakOff doCancel delivered doSend doSendFromInterrupt emptied doReceive doMake doDrop doPend doAbort posted doPost doPostFromInterrupt doLock doUnlock charge charged countDown timeouts doTick doOutcome ticks doTicks nearest doNearest step serveDecoded door fresh freshTable tableAfter
+unfolding leave join move topBelow top settle bitsBelow readyWord waitOf outcomeOf threadRow threadOf semRow semOf kernelRow flat encodeWith encode rows decode placeOk freeOk usedOk threadOk semOk initOk kernelOk sound soundTable areaOf requestOf decodeRequest endWait serve block mustWait doYield doCreate deleted doDelete doSuspend doResume doDelay breakOff doCancel doSetPriority doSetTurn delivered doSend doSendFromInterrupt emptied doReceive doMake doDrop doPend doAbort posted doPost doPostFromInterrupt doLock doUnlock charge charged countDown timeouts doTick doOutcome ticks doTicks nearest doNearest step serveDecoded door fresh freshTable tableAfter
 behindTheDoor = tt

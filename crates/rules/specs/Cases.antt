@@ -21,9 +21,6 @@ create i p n = ask 1 i p n 0
 abbrev delete : ℕ → List ℕ
 delete i = ask 2 i 0 0 0
 
-abbrev set : ℕ → ℕ → ℕ → List ℕ
-set i p n = ask 3 i p n 0
-
 abbrev suspend : ℕ → List ℕ
 suspend i = ask 4 i 0 0 0
 
@@ -68,6 +65,12 @@ ticks n = ask 21 0 0 n 0
 
 abbrev nearest : List ℕ
 nearest = ask 22 0 0 0 0
+
+abbrev setPriority : ℕ → ℕ → List ℕ
+setPriority i p = ask 23 i p 0 0
+
+abbrev setTurn : ℕ → ℕ → List ℕ
+setTurn i n = ask 24 i 0 n 0
 
 -- ANSWERS, each with the thread that runs after it
 
@@ -192,6 +195,40 @@ table =
     ∷ case
     (create 1 5 5 ∷ create 2 7 5 ∷ send 1 0 40 ∷ send 1 100000 41 ∷ create 3 9 5 ∷ send 1 100000 42 ∷ receive 0 ∷ outcome 3 ∷ suspend 2 ∷ receive 0 ∷ [])
     (done 1 ∷ done 2 ∷ done 2 ∷ blocked 1 ∷ done 3 ∷ behind 1 1 ∷ gives 40 2 ∷ blocked 2 ∷ done 1 ∷ gives 41 3 ∷ [])
+    -- order 8, in the place of document 01's Set: "Refusals: 23: −2, −1, −5; 24: −3, −1, −5; Init gets −5 in both"
+    ∷ case
+    (setPriority 0 32 ∷ setPriority 1 32 ∷ setPriority 1 31 ∷ setPriority 0 31 ∷ setTurn 0 0 ∷ setTurn 1 100000 ∷ setTurn 1 99999 ∷ setTurn 0 1 ∷ [])
+    (minus 2 0 ∷ minus 2 0 ∷ minus 1 0 ∷ minus 5 0 ∷ minus 3 0 ∷ minus 3 0 ∷ minus 1 0 ∷ minus 5 0 ∷ [])
+    -- "−8 for 3 and above 24", and for "a lane's turn" with "a stale priority" sent along
+    ∷ case (create 1 5 2 ∷ ask 3 1 5 2 0 ∷ ask 25 0 0 0 0 ∷ ask 23 1 5 2 0 ∷ ask 24 1 5 2 0 ∷ []) (done 1 ∷ minus 8 1 ∷ minus 8 1 ∷ minus 8 1 ∷ minus 8 1 ∷ [])
+    -- "a ready thread whose priority differs goes to the new tail with a full counter": 1 of its 2 ticks is spent before, and it runs after thread
+    -- 2's whole turn
+    ∷ caseHolding
+    (create 1 5 2 ∷ tick ∷ create 2 6 3 ∷ setPriority 1 6 ∷ tick ∷ tick ∷ tick ∷ [])
+    (done 1 ∷ done 1 ∷ done 2 ∷ done 2 ∷ done 2 ∷ done 2 ∷ done 1 ∷ [])
+    (held 1 12 (wordBytes 2) ∷ heldWord (1 + 2 ^ 6) ∷ [])
+    -- "the same priority changes nothing": place 1, and 1 tick left
+    ∷ caseHolding
+    (create 1 5 2 ∷ create 2 5 3 ∷ tick ∷ setPriority 1 5 ∷ [])
+    (done 1 ∷ done 1 ∷ done 1 ∷ done 1 ∷ [])
+    (held 1 5 (1 ∷ []) ∷ held 1 12 (wordBytes 1) ∷ [])
+    -- "a ready thread takes a full counter and keeps its place": the running thread, and one whose new turn is below what it had left
+    ∷ caseHolding
+    (create 1 5 2 ∷ create 2 5 3 ∷ tick ∷ setTurn 1 4 ∷ setTurn 2 1 ∷ [])
+    (done 1 ∷ done 1 ∷ done 1 ∷ done 1 ∷ done 1 ∷ [])
+    (held 1 5 (1 ∷ []) ∷ held 1 8 (wordBytes 4 ++ wordBytes 4) ∷ held 2 5 (2 ∷ []) ∷ held 2 8 (wordBytes 1 ++ wordBytes 1) ∷ [])
+    -- "otherwise only the turn changes", and only the priority: a thread that waits waits on, and then has both
+    ∷ caseHolding
+    (create 1 5 2 ∷ delay 9 ∷ setTurn 1 4 ∷ setPriority 1 8 ∷ [])
+    (done 1 ∷ blocked 0 ∷ done 0 ∷ done 0 ∷ [])
+    (held 1 1 (8 ∷ []) ∷ held 1 8 (wordBytes 4 ++ wordBytes 9) ∷ heldWord 1 ∷ [])
+    ∷ caseHolding
+    (create 1 5 2 ∷ delay 1 ∷ setTurn 1 4 ∷ setPriority 1 8 ∷ tick ∷ [])
+    (done 1 ∷ blocked 0 ∷ done 0 ∷ done 0 ∷ done 1 ∷ [])
+    (held 1 12 (wordBytes 4) ∷ heldWord (1 + 2 ^ 8) ∷ [])
+    -- the running thread leaves its line for a lower one: another runs at once, and under lock it runs on
+    ∷ case (create 1 5 2 ∷ create 2 4 3 ∷ setPriority 1 3 ∷ []) (done 1 ∷ done 1 ∷ done 2 ∷ [])
+    ∷ case (create 1 5 2 ∷ create 2 4 3 ∷ lockOn ∷ setPriority 1 3 ∷ unlock ∷ []) (done 1 ∷ done 1 ∷ done 1 ∷ done 1 ∷ done 2 ∷ [])
     -- order 1: "the number of threads already in that line". Three wait, the second of them suspended: the fourth comer gets 3. The first is
     -- served, and comes again: 3 again
     ∷ case
@@ -230,12 +267,12 @@ table =
     ∷ caseHolding (create 1 31 5 ∷ create 2 31 5 ∷ delay 9 ∷ []) (done 1 ∷ done 1 ∷ blocked 2 ∷ []) (heldWord (1 + 2 ^ 31) ∷ [])
     ∷ caseHolding (create 1 31 5 ∷ create 2 31 5 ∷ delay 9 ∷ delay 9 ∷ []) (done 1 ∷ done 1 ∷ blocked 2 ∷ blocked 0 ∷ []) (heldWord 1 ∷ [])
     -- a change of priority takes the bit along; a suspended thread has none, whatever its priority becomes
-    ∷ caseHolding (create 1 7 5 ∷ set 1 8 5 ∷ []) (done 1 ∷ done 1 ∷ []) (heldWord (1 + 2 ^ 8) ∷ [])
-    ∷ caseHolding (create 1 7 5 ∷ suspend 1 ∷ set 1 8 5 ∷ []) (done 1 ∷ done 0 ∷ done 0 ∷ []) (heldWord 1 ∷ [])
+    ∷ caseHolding (create 1 7 5 ∷ setPriority 1 8 ∷ []) (done 1 ∷ done 1 ∷ []) (heldWord (1 + 2 ^ 8) ∷ [])
+    ∷ caseHolding (create 1 7 5 ∷ suspend 1 ∷ setPriority 1 8 ∷ []) (done 1 ∷ done 0 ∷ done 0 ∷ []) (heldWord 1 ∷ [])
     -- a wait that ends by time brings the bit back
     ∷ caseHolding (create 1 7 5 ∷ delay 1 ∷ tick ∷ []) (done 1 ∷ blocked 0 ∷ done 1 ∷ []) (heldWord (1 + 2 ^ 7) ∷ [])
-    -- order 7: "takes a number from 1 to 99,999 and does that many ticks", "−8 now starts above 22": 22 with a number, and 23, ask nothing
-    ∷ case (ticks 0 ∷ ticks 100000 ∷ ask 22 0 0 1 0 ∷ ask 23 0 0 0 0 ∷ []) (minus 3 0 ∷ minus 3 0 ∷ minus 8 0 ∷ minus 8 0 ∷ [])
+    -- order 7: "takes a number from 1 to 99,999 and does that many ticks"; 22 with a number asks nothing
+    ∷ case (ticks 0 ∷ ticks 100000 ∷ ask 22 0 0 1 0 ∷ []) (minus 3 0 ∷ minus 3 0 ∷ minus 8 0 ∷ [])
     -- "the least number of ticks after which, if only ticks come, some timed wait ends": a delay of 3 has 1 left after 2 ticks
     ∷ case
     (create 1 5 2 ∷ delay 3 ∷ ticks 2 ∷ nearest ∷ ticks 1 ∷ outcome 1 ∷ nearest ∷ [])

@@ -4,7 +4,7 @@ use mathlib.Core.List.{List, [], _∷_}
 use mathlib.Core.Option.{Option, none, some}
 use Prim.Native.Nat.{ℕ, pred}
 use lib.Dec.{eqb}
-use lib.ListN.{length, getD, getElem?, replicate}
+use lib.ListN.{length, getD, replicate}
 use Rattle.rules.specs.Basic.{if_then_else_}
 use Rattle.rules.specs.Table.{wordAt}
 use Rattle.rules.specs.declared.Request.{Request}
@@ -29,17 +29,21 @@ abbrev ✓ : Bool
 abbrev ✗ : Bool
 ✗ = false
 
-abbrev uses : Bool → Bool → Bool → Bool → (ℕ → ℕ → ℕ → ℕ → Request) → Operation
-uses o p n d r = record { object = o; priority = p; number = n; parcel = d; asks = r }
+abbrev uses : Bool → Bool → Bool → Bool → (ℕ → ℕ → ℕ → ℕ → Request) → Option Operation
+uses o p n d r = some (record { object = o; priority = p; number = n; parcel = d; asks = r })
 
--- document 01's column "Uses", in the order of the operations' numbers: object, priority, number, data; the last two are order 7's, of which
--- 21 "takes a number"
-abbrev pub operations : List Operation
+-- a number that has no operation any more
+abbrev gone : Option Operation
+gone = none
+
+-- document 01's column "Uses", in the order of the operations' numbers: object, priority, number, data. 21 and 22 are order 7's: 21 "takes a
+-- number". Order 8: "Operation 3 is gone. 23 uses object and priority, 24 object and number."
+abbrev pub operations : List (Option Operation)
 operations =
     uses ✗ ✗ ✗ ✗ (λ o p n d. Ask.Yield)
     ∷ uses ✓ ✓ ✓ ✗ (λ o p n d. Ask.Create o p n)
     ∷ uses ✓ ✗ ✗ ✗ (λ o p n d. Ask.Delete o)
-    ∷ uses ✓ ✓ ✓ ✗ (λ o p n d. Ask.Set o p n)
+    ∷ gone
     ∷ uses ✓ ✗ ✗ ✗ (λ o p n d. Ask.Suspend o)
     ∷ uses ✓ ✗ ✗ ✗ (λ o p n d. Ask.Resume o)
     ∷ uses ✗ ✗ ✓ ✗ (λ o p n d. Ask.Delay n)
@@ -59,7 +63,13 @@ operations =
     ∷ uses ✓ ✗ ✗ ✗ (λ o p n d. Ask.Outcome o)
     ∷ uses ✗ ✗ ✓ ✗ (λ o p n d. Ask.Ticks n)
     ∷ uses ✗ ✗ ✗ ✗ (λ o p n d. Ask.Nearest)
+    ∷ uses ✓ ✓ ✗ ✗ (λ o p n d. Ask.SetPriority o p)
+    ∷ uses ✓ ✗ ✓ ✗ (λ o p n d. Ask.SetTurn o n)
     ∷ []
+
+-- the operation that has this number, if one has
+abbrev pub operationOf : ℕ → Option Operation
+operationOf operation = getD operations operation gone
 
 -- a field that is used, or zero
 abbrev pub kept : Bool → ℕ → Bool
@@ -72,9 +82,10 @@ askedBy (some u) o p n d =
 
 -- the request of an operation's number and its four fields
 unfoldable pub requestOf : ℕ → ℕ → ℕ → ℕ → ℕ → Decoded
-requestOf operation o p n d = askedBy (getElem? operations operation) o p n d
+requestOf operation o p n d = askedBy (operationOf operation) o p n d
 
--- "−8: record not 12 bytes, operation above 20, byte 3 or an unused field not zero"; order 7: "−8 now starts above 22"
+-- "−8: record not 12 bytes, operation above 20, byte 3 or an unused field not zero"; order 8: "−8 for 3
+-- and above 24"
 unfoldable pub decodeRequest : List ℕ → Decoded
 decodeRequest r =
     if eqb (length r) requestLength && eqb (getD r 3 0) 0

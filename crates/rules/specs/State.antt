@@ -117,9 +117,11 @@ withOutcome o x t = record { used = t .used; priority = t .priority; suspended =
 abbrev pub withMail : Bool → ℕ → Thread → Thread
 withMail b v t = record { used = t .used; priority = t .priority; suspended = t .suspended; wait = t .wait; place = t .place; full = b; outcome = t .outcome; turn = t .turn; value = v; parcel = t .parcel }
 
--- the settings: priority and turn
-abbrev pub withSettings : ℕ → ℕ → Thread → Thread
-withSettings p n t = record { used = t .used; priority = p; suspended = t .suspended; wait = t .wait; place = t .place; full = t .full; outcome = t .outcome; turn = n; value = t .value; parcel = t .parcel }
+abbrev pub withPriority : ℕ → Thread → Thread
+withPriority p t = record { used = t .used; priority = p; suspended = t .suspended; wait = t .wait; place = t .place; full = t .full; outcome = t .outcome; turn = t .turn; value = t .value; parcel = t .parcel }
+
+abbrev pub withTurn : ℕ → Thread → Thread
+withTurn n t = record { used = t .used; priority = t .priority; suspended = t .suspended; wait = t .wait; place = t .place; full = t .full; outcome = t .outcome; turn = n; value = t .value; parcel = t .parcel }
 
 abbrev pub withThreads : List Thread → State → State
 withThreads ts s = record { threads = ts; sems = s .sems; running = s .running; lock = s .lock }

@@ -1,7 +1,7 @@
 -- A step: what a request answers and leaves, by its operation.
 use Rattle.rules.specs.State.{State}
 use Rattle.rules.specs.Waiting.{Step}
-use Rattle.rules.specs.Threads.{doYield, doCreate, doDelete, doSet, doSuspend, doResume, doDelay, doCancel}
+use Rattle.rules.specs.Threads.{doYield, doCreate, doDelete, doSuspend, doResume, doDelay, doCancel, doSetPriority, doSetTurn}
 use Rattle.rules.specs.Mail.{doSend, doSendFromInterrupt, doReceive}
 use Rattle.rules.specs.Semaphores.{doMake, doDrop, doPend, doAbort, doPost, doPostFromInterrupt}
 use Rattle.rules.specs.Time.{doLock, doUnlock, doTick, doOutcome}
@@ -13,7 +13,6 @@ unfoldable pub step : State → Request → Step
 step s Ask.Yield = doYield s
 step s (Ask.Create i p n) = doCreate s i p n
 step s (Ask.Delete i) = doDelete s i
-step s (Ask.Set i p n) = doSet s i p n
 step s (Ask.Suspend i) = doSuspend s i
 step s (Ask.Resume i) = doResume s i
 step s (Ask.Delay n) = doDelay s n
@@ -33,3 +32,5 @@ step s Ask.Tick = doTick s
 step s (Ask.Outcome i) = doOutcome s i
 step s (Ask.Ticks n) = doTicks s n
 step s Ask.Nearest = doNearest s
+step s (Ask.SetPriority i p) = doSetPriority s i p
+step s (Ask.SetTurn i n) = doSetTurn s i n

@@ -1,4 +1,4 @@
--- Threads: Yield, Create, Delete, Set, Suspend, Resume, Delay, Cancel.
+-- Threads: Yield, Create, Delete, Suspend, Resume, Delay, Cancel, Set priority, Set turn.
 use mathlib.Core.Bool.{Bool, true, false, not, _&&_, _||_}
 use mathlib.Core.List.{List}
 use Prim.Native.Nat.{ℕ}
@@ -6,7 +6,7 @@ use lib.Dec.{eqb, leb, ltb}
 use lib.ListN.{length}
 use Rattle.rules.specs.Basic.{if_then_else_}
 use Rattle.rules.specs.Board.{topPriority, mostTicks}
-use Rattle.rules.specs.State.{State, free, at, waiting, delaying, isReady, withWait, withSuspended, withSettings, edit}
+use Rattle.rules.specs.State.{State, free, at, waiting, delaying, isReady, withWait, withSuspended, withPriority, withTurn, edit}
 use Rattle.rules.specs.Lines.{senders, lineLength, filled, move}
 use Rattle.rules.specs.Waiting.{Step, refuse, accept, acceptThreads, endWait, serve, block, mayNotWait}
 use Rattle.rules.specs.declared.Thread.{Thread}
@@ -58,18 +58,6 @@ doDelete s i =
     if bound s i then refuse s BadOperation else
     acceptThreads s (deleted i (s .threads))
 
--- "Set −2, −3, −1, −5. −5 for Init. New priority and turn; a ready thread takes a full counter and, only if the priority differs,
--- goes to the new line's tail; any other keeps its counter."
-unfoldable pub doSet : State → ℕ → ℕ → ℕ → Step
-doSet s i p n =
-    if badPriority p then refuse s BadPriority else
-    if badTicks n then refuse s BadTicks else
-    if noThread s i then refuse s BadThread else
-    if eqb i 0 then refuse s BadOperation else
-    if isReady (at (s .threads) i) && not (eqb (at (s .threads) i .priority) p)
-    then acceptThreads s (move i (withSettings p n) (s .threads))
-    else acceptThreads s (edit i (λ t. filled (withSettings p n t)) (s .threads))
-
 -- "A ready thread leaves its line with counter 0."
 abbrev pub stopped : Thread → Thread
 stopped t = withWait (Nothing 0) (withSuspended true t)
@@ -110,3 +98,24 @@ breakOff kind s i =
 -- "Cancel −1, −4"; "−4 Cancel: not in a delay"; "the wait ends with −5."
 unfoldable pub doCancel : State → ℕ → Step
 doCancel s i = breakOff delaying s i
+
+-- Order 8: "operation 23 sets the priority (a ready thread whose priority differs goes to the new tail with a full counter; the same priority
+-- changes nothing)". "Refusals: 23: −2, −1, −5", "Init gets −5 in both". A thread that is in no ready line keeps its counter, as in document
+-- 01's Set: "any other keeps its counter".
+unfoldable pub doSetPriority : State → ℕ → ℕ → Step
+doSetPriority s i p =
+    if badPriority p then refuse s BadPriority else
+    if noThread s i then refuse s BadThread else
+    if eqb i 0 then refuse s BadOperation else
+    if isReady (at (s .threads) i) && not (eqb (at (s .threads) i .priority) p)
+    then acceptThreads s (move i (withPriority p) (s .threads))
+    else acceptThreads s (edit i (withPriority p) (s .threads))
+
+-- Order 8: "operation 24 sets the turn (a ready thread takes a full counter and keeps its place; otherwise only the turn changes)". "24: −3,
+-- −1, −5"
+unfoldable pub doSetTurn : State → ℕ → ℕ → Step
+doSetTurn s i n =
+    if badTicks n then refuse s BadTicks else
+    if noThread s i then refuse s BadThread else
+    if eqb i 0 then refuse s BadOperation else
+    acceptThreads s (edit i (λ t. filled (withTurn n t)) (s .threads))

@@ -58,7 +58,7 @@ pub struct Sem {
     pub count: u8,
 }
 
-// The 23 operations, in the order of their numbers, each with the fields that it uses.
+// The 24 operations, in the order of their numbers, each with the fields that it uses. No operation has the number 3.
 pub enum Request {
     Yield,
     Create {
@@ -68,11 +68,6 @@ pub enum Request {
     },
     Delete {
         thread: u8,
-    },
-    Set {
-        thread: u8,
-        priority: u8,
-        turn: u32,
     },
     Suspend {
         thread: u8,
@@ -130,6 +125,14 @@ pub enum Request {
         number: u32,
     },
     Nearest,
+    SetPriority {
+        thread: u8,
+        priority: u8,
+    },
+    SetTurn {
+        thread: u8,
+        turn: u32,
+    },
 }
 
 // What a record of 12 bytes asks, if it asks anything.

@@ -3,7 +3,7 @@ ghost use mathlib.Core.Bool.{false};
 ghost use mathlib.Core.Path.{_≡_};
 ghost use Prim.Native.Nat.{_<_};
 ghost use Rattle.rules.specs.Board.{printer};
-ghost use Rattle.rules.specs.State.{State, at, edit, withSuspended, withSettings};
+ghost use Rattle.rules.specs.State.{State, at, edit, withSuspended, withPriority, withTurn};
 ghost use Rattle.rules.specs.Lines.{line, filled, move};
 ghost use Rattle.rules.specs.Table.{decode};
 ghost use Rattle.rules.specs.Threads.{created, deleted, stopped};
@@ -48,25 +48,6 @@ pub fn delete_thread(t: &mut [u8], i: u8)
     waiting::serve(t, n, line, Outcome::Failed);
 }
 
-// Thread `i` is given a priority and a turn, and goes to the new line's tail.
-pub fn move_settings(t: &mut [u8], i: usize, priority: u8, turn: u32)
-    requires { ⌜ (i < printer .threads) × Whole printer (now t) ⌝ }
-    ensures { λ _. ⌜ Becomes printer (now (t .entry)) (now (t .exit)) (onThreads (move i (withSettings priority turn))) ⌝ }
-{
-    let left = ready::leave(t, i);
-    ready::set_settings(t, i, priority, turn, left);
-    lines::join(t, i);
-}
-
-// Thread `i` is given a priority and a turn that leave it in its line; if it is ready it takes a full counter.
-pub fn edit_settings(t: &mut [u8], i: usize, priority: u8, turn: u32)
-    requires { ⌜ (i < printer .threads) × Whole printer (now t) × ((s : State) → decode printer (now t) ≡ s → line (withSettings priority turn (at (s .threads) i)) ≡ line (at (s .threads) i)) ⌝ }
-    ensures { λ _. ⌜ Becomes printer (now (t .entry)) (now (t .exit)) (onThreads (edit i (λ x. filled (withSettings priority turn x)))) ⌝ }
-{
-    records::set_settings(t, i, priority, turn);
-    lines::fill(t, i);
-}
-
 // Thread `i`, which is suspended or resumed while it waits, stays in its line.
 pub fn edit_suspended(t: &mut [u8], i: usize, suspended: bool)
     requires { ⌜ (i < printer .threads) × Whole printer (now t) × ((s : State) → decode printer (now t) ≡ s → line (withSuspended suspended (at (s .threads) i)) ≡ line (at (s .threads) i)) ⌝ }
@@ -93,4 +74,31 @@ pub fn restart(t: &mut [u8], i: usize)
     let left = ready::leave(t, i);
     ready::set_suspended(t, i, false, left);
     lines::join(t, i);
+}
+
+// Thread `i` is given a priority, and goes to the new line's tail.
+pub fn move_priority(t: &mut [u8], i: usize, priority: u8)
+    requires { ⌜ (i < printer .threads) × Whole printer (now t) ⌝ }
+    ensures { λ _. ⌜ Becomes printer (now (t .entry)) (now (t .exit)) (onThreads (move i (withPriority priority))) ⌝ }
+{
+    let left = ready::leave(t, i);
+    ready::set_priority(t, i, priority, left);
+    lines::join(t, i);
+}
+
+// Thread `i` is given a priority that leaves it in its line.
+pub fn edit_priority(t: &mut [u8], i: usize, priority: u8)
+    requires { ⌜ (i < printer .threads) × Whole printer (now t) × ((s : State) → decode printer (now t) ≡ s → line (withPriority priority (at (s .threads) i)) ≡ line (at (s .threads) i)) ⌝ }
+    ensures { λ _. ⌜ Becomes printer (now (t .entry)) (now (t .exit)) (onThreads (edit i (withPriority priority))) ⌝ }
+{
+    records::set_priority(t, i, priority);
+}
+
+// Thread `i` is given a turn; if it is ready it takes a full counter.
+pub fn edit_turn(t: &mut [u8], i: usize, turn: u32)
+    requires { ⌜ (i < printer .threads) × Whole printer (now t) ⌝ }
+    ensures { λ _. ⌜ Becomes printer (now (t .entry)) (now (t .exit)) (onThreads (edit i (λ x. filled (withTurn turn x)))) ⌝ }
+{
+    records::set_turn(t, i, turn);
+    lines::fill(t, i);
 }

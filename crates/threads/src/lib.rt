@@ -1,5 +1,5 @@
-// Threads: Yield, Create, Delete, Set, Suspend, Resume, Delay, Cancel. Each operation tests its refusals in document 01's order, before
-// the first write.
+// Threads: Yield, Create, Delete, Suspend, Resume, Delay, Cancel, Set priority, Set turn. Each operation tests its refusals in the documents'
+// order, before the first write.
 //
 // The promises are those of crate `waiting`: `Becomes` for a change, `Does` for an operation.
 ghost use mathlib.Core.Bool.{not, _&&_};
@@ -7,7 +7,7 @@ ghost use mathlib.Core.Path.{_≡_};
 ghost use lib.Dec.{eqb};
 ghost use Rattle.rules.specs.Board.{printer};
 ghost use Rattle.rules.specs.State.{isReady};
-ghost use Rattle.rules.specs.Threads.{doYield, doCreate, doDelete, doSet, doSuspend, doResume, doDelay, doCancel};
+ghost use Rattle.rules.specs.Threads.{doYield, doCreate, doDelete, doSuspend, doResume, doDelay, doCancel, doSetPriority, doSetTurn};
 ghost use Rattle.waiting.specs.Does.{Serves, Does};
 use rules::Answer;
 use rules::THREADS;
@@ -67,43 +67,6 @@ pub fn delete(t: &mut [u8], i: u8) -> Answer
         return refused::BAD_OPERATION;
     }
     changes::delete_thread(t, i);
-    waiting::accept(t, 0)
-}
-
-// Does a thread that is given that priority go to another line?
-fn changes_line(th: Thread, priority: u8) -> bool
-    ensures { λ r. ⌜ r ≡ (isReady th && not (eqb (th .priority) priority)) ⌝ }
-{
-    if !lines::is_ready(th) {
-        return false;
-    }
-    th.priority != priority
-}
-
-// Refused in the order −2, −3, −1, −5.
-pub fn set(t: &mut [u8], i: u8, priority: u8, turn: u32) -> Answer
-    requires { ⌜ Serves printer (now t) ⌝ }
-    ensures { λ r. ⌜ Does printer (now (t .entry)) (now (t .exit)) r (λ s. doSet s i priority turn) ⌝ }
-{
-    if priority > TOP_PRIORITY {
-        return refused::BAD_PRIORITY;
-    }
-    if refusals::bad_ticks(turn) {
-        return refused::BAD_TICKS;
-    }
-    let th = records::thread_at(t, i);
-    if !th.used {
-        return refused::BAD_THREAD;
-    }
-    if i == 0 {
-        return refused::BAD_OPERATION;
-    }
-    let k = i as usize;
-    if changes_line(th, priority) {
-        changes::move_settings(t, k, priority, turn);
-        return waiting::accept(t, 0);
-    }
-    changes::edit_settings(t, k, priority, turn);
     waiting::accept(t, 0)
 }
 
@@ -175,4 +138,56 @@ pub fn cancel(t: &mut [u8], i: u8) -> Answer
     let th = records::thread_at(t, i);
     let w = th.wait;
     waiting::break_off(t, i, records::is_delaying(w))
+}
+
+// Does a thread that is given that priority go to another line?
+fn changes_line(th: Thread, priority: u8) -> bool
+    ensures { λ r. ⌜ r ≡ (isReady th && not (eqb (th .priority) priority)) ⌝ }
+{
+    if !lines::is_ready(th) {
+        return false;
+    }
+    th.priority != priority
+}
+
+// Refused in the order −2, −1, −5.
+pub fn set_priority(t: &mut [u8], i: u8, priority: u8) -> Answer
+    requires { ⌜ Serves printer (now t) ⌝ }
+    ensures { λ r. ⌜ Does printer (now (t .entry)) (now (t .exit)) r (λ s. doSetPriority s i priority) ⌝ }
+{
+    if priority > TOP_PRIORITY {
+        return refused::BAD_PRIORITY;
+    }
+    let th = records::thread_at(t, i);
+    if !th.used {
+        return refused::BAD_THREAD;
+    }
+    if i == 0 {
+        return refused::BAD_OPERATION;
+    }
+    let k = i as usize;
+    if changes_line(th, priority) {
+        changes::move_priority(t, k, priority);
+        return waiting::accept(t, 0);
+    }
+    changes::edit_priority(t, k, priority);
+    waiting::accept(t, 0)
+}
+
+// Refused in the order −3, −1, −5.
+pub fn set_turn(t: &mut [u8], i: u8, turn: u32) -> Answer
+    requires { ⌜ Serves printer (now t) ⌝ }
+    ensures { λ r. ⌜ Does printer (now (t .entry)) (now (t .exit)) r (λ s. doSetTurn s i turn) ⌝ }
+{
+    if refusals::bad_ticks(turn) {
+        return refused::BAD_TICKS;
+    }
+    if waiting::no_thread(t, i) {
+        return refused::BAD_THREAD;
+    }
+    if i == 0 {
+        return refused::BAD_OPERATION;
+    }
+    changes::edit_turn(t, i as usize, turn);
+    waiting::accept(t, 0)
 }

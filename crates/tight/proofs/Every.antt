@@ -39,10 +39,11 @@ each = record {
   records-set-mail = λ κs a z z′ ws ws′ h p q. (refl, first (becomes-one (h .1) p q));
   records-set-outcome = λ κs a z z′ ws ws′ h p q. (refl, first (becomes-one (h .1) p q));
   records-set-place = λ κs a z z′ ws ws′ h p q. (refl, first (becomes-one (h .1) p q));
+  records-set-priority = λ κs a z z′ ws ws′ h p q. (refl, first (changes-one (h .1) p q));
   records-set-running = λ κs a z z′ ws ws′ h p q. (refl, first (becomes-one (h .1) p q));
   records-set-sem = λ κs a z z′ ws ws′ h p q. (refl, first (becomes-one (h .1) p q));
-  records-set-settings = λ κs a z z′ ws ws′ h p q. (refl, first (changes-one (h .1) p q));
   records-set-suspended = λ κs a z z′ ws ws′ h p q. (refl, first (changes-one (h .1) p q));
+  records-set-turn = λ κs a z z′ ws ws′ h p q. (refl, first (becomes-one (h .1) p q));
   records-set-wait = λ κs a z z′ ws ws′ h p q. (refl, first (changes-one (h .1) p q));
   records-set-word = λ κs a z z′ ws ws′ h p q. (refl, first (p _ _ (laid-shows h) .bytes ∙ sym (q _ _ (laid-shows h) .bytes)));
   records-store-thread = λ κs a z z′ ws ws′ h p q. (refl, first (changes-one (whole-laid (h .1)) p q));
@@ -70,7 +71,7 @@ each = record {
   ready-highest = λ κs a z z′ ws ws′ h p q. (omega (arith, power-low _ _ _ (p .1) (q .2), power-low _ _ _ (q .1) (p .2)), refl);
   ready-leave = λ κs a z z′ ws ws′ h p q. let e = becomes-one (h .1) (p .1) (q .1) in (p .0 _ refl ∙ sym (q .0 _ (ap (decode printer) (sym e))), first e);
   ready-ready-bit = λ κs a z z′ ws ws′ h p q. (p ∙ sym q, refl);
-  ready-set-settings = λ κs a z z′ ws ws′ h p q. (refl, first (becomes-one (h .1) p q));
+  ready-set-priority = λ κs a z z′ ws ws′ h p q. (refl, first (becomes-one (h .1) p q));
   ready-set-stopped = λ κs a z z′ ws ws′ h p q. (refl, first (becomes-one (h .1) p q));
   ready-set-suspended = λ κs a z z′ ws ws′ h p q. (refl, first (becomes-one (h .1) p q));
   ready-set-wait = λ κs a z z′ ws ws′ h p q. (refl, first (becomes-one (h .1) p q));
@@ -102,7 +103,8 @@ each = record {
   threads-delay = λ κs a z z′ ws ws′ h p q. let d = does-one (h .whole) p q in (d .1, first (d .0));
   threads-delete = λ κs a z z′ ws ws′ h p q. let d = does-one (h .whole) p q in (d .1, first (d .0));
   threads-resume = λ κs a z z′ ws ws′ h p q. let d = does-one (h .whole) p q in (d .1, first (d .0));
-  threads-set = λ κs a z z′ ws ws′ h p q. let d = does-one (h .whole) p q in (d .1, first (d .0));
+  threads-set-priority = λ κs a z z′ ws ws′ h p q. let d = does-one (h .whole) p q in (d .1, first (d .0));
+  threads-set-turn = λ κs a z z′ ws ws′ h p q. let d = does-one (h .whole) p q in (d .1, first (d .0));
   threads-suspend = λ κs a z z′ ws ws′ h p q. let d = does-one (h .whole) p q in (d .1, first (d .0));
   threads-yield-turn = λ κs a z z′ ws ws′ h p q. let d = does-one (h .whole) p q in (d .1, first (d .0));
   -- mail

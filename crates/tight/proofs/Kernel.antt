@@ -9,6 +9,8 @@ use contract.Monad.{fact, factI, fact-use}
 use denote.Ref.{now}
 use Rattle.rules.specs.Board.{printer}
 use Rattle.rules.specs.Door.{Handed, door}
+use Rattle.rules.specs.declared.Request.the-variants as Ask
+use Rattle.request.specs.Written.{written}
 use Rattle.fairness.specs.Run.{Event}
 use Rattle.kernel.proofs.speltmallet_door.Met.{met}
 use Rattle.promises.specs.Demand1.{Answered}
@@ -24,6 +26,7 @@ use Rattle.promises.proofs.Second.{second}
 use Rattle.promises.proofs.Word.{ready-word}
 use Rattle.promises.proofs.Third.{whole-rounds, demand3}
 use Rattle.promises.proofs.Slept.{slept}
+use Rattle.promises.proofs.FormerSet.{former-set}
 use Rattle.promises.proofs.Lanes.{no-lags}
 
 -- three facts, one after the other, are one
@@ -62,6 +65,9 @@ kernel = record {
   word = λ x d σ e. subst (λ d. WordSays printer (d .table)) (sym e) (ready-word .sound printer _ (second .ruled printer _ _ _ σ .sound));
   slept = λ x d c n r low high e. e ∙ asked x r ∙ slept .same printer _ _ c n low high;
   nearest = λ x d r σ l e. subst (λ d. Soonest printer (now (x .table)) (now (x .area)) d) (sym (e ∙ asked x r)) (slept .nearest printer _ _ σ l);
+  former = λ x y d e i p n q r σ l m f g h k.
+      h ∙ asked y r ∙ ap (λ t. door printer t (written (Ask.SetPriority i p)) (now (y .area))) (g ∙ ap (λ d. d .table) (f ∙ asked x q))
+      ∙ former-set .atTheDoor printer (now (x .table)) (now (x .area)) (now (y .area)) i p n σ l m k;
   third = λ t cs h. subst (λ es. Fair printer t es) (run-of t cs h) (demand3 printer t (map handed cs));
   shares = λ t cs h. subst (λ es. Shares printer t es) (run-of t cs h) (whole-rounds printer t (map handed cs));
   lags = λ t cs σ h. subst (λ es. NoLagIn printer t es) (run-of t cs h) (no-lags .from printer t (map handed cs) σ);

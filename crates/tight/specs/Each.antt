@@ -48,10 +48,11 @@ pub record Each : Type 1 where
   pub records-set-mail : Determines records.set_mail.Kinds.ps records.set_mail.Kinds.r records.set_mail.Reads.Pre records.set_mail.Reads.Post
   pub records-set-outcome : Determines records.set_outcome.Kinds.ps records.set_outcome.Kinds.r records.set_outcome.Reads.Pre records.set_outcome.Reads.Post
   pub records-set-place : Determines records.set_place.Kinds.ps records.set_place.Kinds.r records.set_place.Reads.Pre records.set_place.Reads.Post
+  pub records-set-priority : Determines records.set_priority.Kinds.ps records.set_priority.Kinds.r records.set_priority.Reads.Pre records.set_priority.Reads.Post
   pub records-set-running : Determines records.set_running.Kinds.ps records.set_running.Kinds.r records.set_running.Reads.Pre records.set_running.Reads.Post
   pub records-set-sem : Determines records.set_sem.Kinds.ps records.set_sem.Kinds.r records.set_sem.Reads.Pre records.set_sem.Reads.Post
-  pub records-set-settings : Determines records.set_settings.Kinds.ps records.set_settings.Kinds.r records.set_settings.Reads.Pre records.set_settings.Reads.Post
   pub records-set-suspended : Determines records.set_suspended.Kinds.ps records.set_suspended.Kinds.r records.set_suspended.Reads.Pre records.set_suspended.Reads.Post
+  pub records-set-turn : Determines records.set_turn.Kinds.ps records.set_turn.Kinds.r records.set_turn.Reads.Pre records.set_turn.Reads.Post
   pub records-set-wait : Determines records.set_wait.Kinds.ps records.set_wait.Kinds.r records.set_wait.Reads.Pre records.set_wait.Reads.Post
   pub records-set-word : Determines records.set_word.Kinds.ps records.set_word.Kinds.r records.set_word.Reads.Pre records.set_word.Reads.Post
   pub records-store-thread : Determines records.store_thread.Kinds.ps records.store_thread.Kinds.r records.store_thread.Reads.Pre records.store_thread.Reads.Post
@@ -79,7 +80,7 @@ pub record Each : Type 1 where
   pub ready-highest : Determines ready.highest.Kinds.ps ready.highest.Kinds.r ready.highest.Reads.Pre ready.highest.Reads.Post
   pub ready-leave : Determines ready.leave.Kinds.ps ready.leave.Kinds.r ready.leave.Reads.Pre ready.leave.Reads.Post
   pub ready-ready-bit : Determines ready.ready_bit.Kinds.ps ready.ready_bit.Kinds.r ready.ready_bit.Reads.Pre ready.ready_bit.Reads.Post
-  pub ready-set-settings : Determines ready.set_settings.Kinds.ps ready.set_settings.Kinds.r ready.set_settings.Reads.Pre ready.set_settings.Reads.Post
+  pub ready-set-priority : Determines ready.set_priority.Kinds.ps ready.set_priority.Kinds.r ready.set_priority.Reads.Pre ready.set_priority.Reads.Post
   pub ready-set-stopped : Determines ready.set_stopped.Kinds.ps ready.set_stopped.Kinds.r ready.set_stopped.Reads.Pre ready.set_stopped.Reads.Post
   pub ready-set-suspended : Determines ready.set_suspended.Kinds.ps ready.set_suspended.Kinds.r ready.set_suspended.Reads.Pre ready.set_suspended.Reads.Post
   pub ready-set-wait : Determines ready.set_wait.Kinds.ps ready.set_wait.Kinds.r ready.set_wait.Reads.Pre ready.set_wait.Reads.Post
@@ -111,7 +112,8 @@ pub record Each : Type 1 where
   pub threads-delay : Determines threads.delay.Kinds.ps threads.delay.Kinds.r threads.delay.Reads.Pre threads.delay.Reads.Post
   pub threads-delete : Determines threads.delete.Kinds.ps threads.delete.Kinds.r threads.delete.Reads.Pre threads.delete.Reads.Post
   pub threads-resume : Determines threads.resume.Kinds.ps threads.resume.Kinds.r threads.resume.Reads.Pre threads.resume.Reads.Post
-  pub threads-set : Determines threads.set.Kinds.ps threads.set.Kinds.r threads.set.Reads.Pre threads.set.Reads.Post
+  pub threads-set-priority : Determines threads.set_priority.Kinds.ps threads.set_priority.Kinds.r threads.set_priority.Reads.Pre threads.set_priority.Reads.Post
+  pub threads-set-turn : Determines threads.set_turn.Kinds.ps threads.set_turn.Kinds.r threads.set_turn.Reads.Pre threads.set_turn.Reads.Post
   pub threads-suspend : Determines threads.suspend.Kinds.ps threads.suspend.Kinds.r threads.suspend.Reads.Pre threads.suspend.Reads.Post
   pub threads-yield-turn : Determines threads.yield_turn.Kinds.ps threads.yield_turn.Kinds.r threads.yield_turn.Reads.Pre threads.yield_turn.Reads.Post
   -- mail

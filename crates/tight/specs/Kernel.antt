@@ -19,7 +19,9 @@ use denote.Triple.Entry.{Args}
 use Rattle.rules.specs.Board.{printer}
 use Rattle.rules.specs.Answers.{areaLength}
 use Rattle.rules.specs.Sound.{SoundTable}
-use Rattle.rules.specs.Door.{Doored, Handed, door}
+use Rattle.rules.specs.Table.{encode, decode}
+use Rattle.rules.specs.Door.{Doored, Handed, answered, door}
+use Rattle.rules.specs.declared.Answer.the-variants.{Done}
 use Rattle.rules.specs.declared.Request.the-variants as Ask
 use Rattle.request.specs.Written.{written}
 use Rattle.fairness.specs.Run.{Event}
@@ -31,6 +33,7 @@ use Rattle.promises.specs.Word.{WordSays}
 use Rattle.fairness.specs.Doors.{countedAs}
 use Rattle.promises.specs.Demand3.{Fair, Shares}
 use Rattle.promises.specs.Slept.{tickTimes, found, Soonest}
+use Rattle.promises.specs.FormerSet.{formerSet}
 use Rattle.promises.specs.Lanes.{NoLagIn}
 
 -- ONE CALL
@@ -104,6 +107,11 @@ pub record Kernel : Type 2 where
   -- and the value of operation 22 is "the least number of ticks after which, if only ticks come, some timed wait ends, and 0 if there is none"
   pub nearest : (x : Lent) (d : Doored) → now (x .request) ≡ written Ask.Nearest → SoundTable printer (now (x .table)) → length (now (x .area)) ≡ areaLength → Allowed x d
       → Soonest printer (now (x .table)) (now (x .area)) d
+  -- order 8: operation 24 and then 23 leave what the former operation 3 left, wherever that was accepted
+  pub former : (x y : Lent) (d e : Doored) (i p n : ℕ) → now (x .request) ≡ written (Ask.SetTurn i n) → now (y .request) ≡ written (Ask.SetPriority i p)
+      → SoundTable printer (now (x .table)) → length (now (x .area)) ≡ areaLength → length (now (y .area)) ≡ areaLength
+      → Allowed x d → now (y .table) ≡ d .table → Allowed y e
+      → formerSet (decode printer (now (x .table))) i p n .answer ≡ Done 0 → e ≡ answered (encode (formerSet (decode printer (now (x .table))) i p n .state)) (Done 0)
   -- demand 3
   pub third : (t : List ℕ) (cs : List Call) → Runs t cs → Fair printer t (events t cs)
   -- and the share over whole rounds

@@ -6,11 +6,11 @@ use mathlib.Core.List.{List, [], _∷_, _++_, append-assoc}
 use mathlib.Core.Option.{Option, none, some}
 use Prim.Native.Nat.{ℕ, _≤_}
 use native.Mathlib.Omega.{arith}
-use lib.ListN.{length, getD, getElem?, drop, drop-of-length-le}
+use lib.ListN.{length, getD, drop, drop-of-length-le}
 use lib.Seq.{drop-cons}
 use Rattle.rules.specs.Basic.{if_then_else_}
 use Rattle.rules.specs.Table.{wordAt}
-use Rattle.rules.specs.Requests.{Operation, operations, kept, askedBy, requestOf, decodeRequest}
+use Rattle.rules.specs.Requests.{Operation, operationOf, kept, askedBy, requestOf, decodeRequest}
 use Rattle.rules.specs.declared.Request.{Request}
 use Rattle.rules.specs.declared.Decoded.the-variants.{Asked, Bad}
 use Rattle.laws.proofs.Split.{is, clash}
@@ -50,7 +50,7 @@ and-on : (a : Bool) → a && true ≡ a
 and-on true = refl
 and-on false = refl
 
-pub uses : (operation : ℕ) (u : Operation) → getElem? operations operation ≡ some u → Uses operation u
+pub uses : (operation : ℕ) (u : Operation) → operationOf operation ≡ some u → Uses operation u
 unfolding takes requestOf
 uses operation u e =
     let o = u .object in
@@ -64,23 +64,23 @@ uses operation u e =
       parcel = rw (e, kept-none o, kept-none p, kept-none n, kept-one d) (told-by d (u .asks 0 0 0 1));
     }
 
--- an operation takes no field, or it is none of the table
+-- a number has an operation if it is taken without fields, and none if not
 known-by : (m : Option Operation) → not (refused (askedBy m 0 0 0 0)) ≡ true → (u : Operation) × (m ≡ some u)
 known-by none e = absurd (clash e refl)
 known-by (some u) e = (u, refl)
 
-pub known : (operation : ℕ) → takes operation 0 0 0 0 ≡ true → (u : Operation) × (getElem? operations operation ≡ some u)
+pub known : (operation : ℕ) → takes operation 0 0 0 0 ≡ true → (u : Operation) × (operationOf operation ≡ some u)
 unfolding takes requestOf
-known operation e = known-by (getElem? operations operation) e
+known operation e = known-by (operationOf operation) e
 
 unknown-by : (m : Option Operation) → not (refused (askedBy m 0 0 0 0)) ≡ false → m ≡ none
 unknown-by none e = refl
 unknown-by (some u) e =
     absurd (clash (rw (kept-none (u .object), kept-none (u .priority), kept-none (u .number), kept-none (u .parcel)) refl) e)
 
-pub unknown : (operation : ℕ) → takes operation 0 0 0 0 ≡ false → getElem? operations operation ≡ none
+pub unknown : (operation : ℕ) → takes operation 0 0 0 0 ≡ false → operationOf operation ≡ none
 unfolding takes requestOf
-unknown operation e = unknown-by (getElem? operations operation) e
+unknown operation e = unknown-by (operationOf operation) e
 
 -- what is read of a field by a flag that the operation tells
 pub told-as : {used flag : Bool} {most : ℕ} {line : List ℕ} {at value next : ℕ} {r : Number} → at ≤ length line → most ≤ mostWord → flag ≡ used → r ≡ fieldAt flag most line at

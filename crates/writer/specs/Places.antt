@@ -5,9 +5,9 @@ use mathlib.Core.Option.{Option, none, some}
 use mathlib.Core.Path.{_≡_}
 use Prim.Native.Nat.{ℕ, suc, _+_, _*_, _-_, _≤_, min}
 use lib.Dec.{eqb, leb}
-use lib.ListN.{length, take, drop, getElem?}
+use lib.ListN.{length, take, drop}
 use Rattle.rules.specs.Basic.{if_then_else_, find}
-use Rattle.rules.specs.Requests.{operations, requestOf}
+use Rattle.rules.specs.Requests.{operationOf, requestOf}
 use Rattle.request.specs.Written.{recordBytes}
 use Rattle.listing.specs.Line.{Front, _andThen_, mostWord, fieldText, fieldsFrom, refused, numberFrom, fieldFrom}
 use Rattle.listing.specs.Listing.{lineFeed, cut, inputOf, bytesOf}
@@ -43,7 +43,7 @@ bounded most (Read value next) = if leb value most then Read value next else NoN
 
 -- the record of the fields that stand from a place on, of an operation of the table
 unfoldable pub fieldsAt : ℕ → List ℕ → ℕ → Option (List ℕ)
-fieldsAt operation line at = getElem? operations operation andThen λ u. fieldsFrom u (record { number = operation; rest = drop at line })
+fieldsAt operation line at = operationOf operation andThen λ u. fieldsFrom u (record { number = operation; rest = drop at line })
 
 -- the record of a line's fields
 abbrev pub bytesRead : Line → Option (List ℕ)

@@ -51,7 +51,7 @@ fn waits() -> [u8; TABLE] {
 }
 
 /// Init and 15 others in one rank, all with a turn of 1: a sound table, which no run leaves, since
-/// Init can't be set.
+/// Init's turn can't be set.
 fn all_of_1() -> [u8; TABLE] {
     let mut table = ranked(|_| 1);
     for field in [at::TURN, at::COUNTER] {

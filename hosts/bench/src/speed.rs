@@ -85,6 +85,17 @@ fn print_rows(title: &str, rows: &[Row], emulated: bool) {
     println!();
 }
 
+/// What a table with Init alone accepts too.
+const BY_INIT: [u8; 7] = [
+    op::MAKE,
+    op::DROP,
+    op::POST_FROM_INTERRUPT,
+    op::LOCK,
+    op::UNLOCK,
+    op::TICK,
+    op::OUTCOME,
+];
+
 /// How the cost grows with the threads in use, over operations that a table with Init alone accepts
 /// too.
 fn print_growth(emulated: bool) {
@@ -94,11 +105,7 @@ fn print_growth(emulated: bool) {
     );
     print_head("Threads", &[], emulated);
     for threads in [1, 2, 4, 8, 12, 16] {
-        let mut rng = Rng::new(63);
-        let mut groups = Vec::new();
-        for operations in [op::MAKE..=op::DROP, op::POST_FROM_INTERRUPT..=op::OUTCOME] {
-            groups.extend(accepted(&mut rng, operations, threads..=threads, 3));
-        }
+        let groups = accepted(&mut Rng::new(63), &BY_INIT, threads..=threads, 3);
         let group = Group {
             name: threads.to_string(),
             cases: groups.into_iter().flat_map(|group| group.cases).collect(),
@@ -112,9 +119,10 @@ fn print_growth(emulated: bool) {
 
 /// Accepted requests of every operation but Ticks, whose calls are many in one: `asleep` has them.
 fn mixed(rng: &mut Rng, threads: RangeInclusive<usize>) -> Vec<Group> {
-    let mut groups = accepted(rng, op::YIELD..=op::OUTCOME, threads.clone(), TIMED);
-    groups.extend(accepted(rng, op::NEAREST..=op::NEAREST, threads, TIMED));
-    groups
+    let but_ticks = op::EACH
+        .into_iter()
+        .filter(|&operation| operation != op::TICKS);
+    accepted(rng, &but_ticks.collect::<Vec<_>>(), threads, TIMED)
 }
 
 /// Prints the tables; gives whether the door is within its budget.

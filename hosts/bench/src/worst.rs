@@ -76,11 +76,6 @@ pub fn worst() -> Vec<Group> {
             record(op::YIELD, 0, 0, 0, 0),
         ),
         (
-            "Set out of a rank of 16",
-            rank_of_16(),
-            record(op::SET, 1, 31, 1, 0),
-        ),
-        (
             "Suspend in a rank of 16",
             rank_of_16(),
             record(op::SUSPEND, 1, 0, 0, 0),
@@ -133,6 +128,16 @@ pub fn worst() -> Vec<Group> {
         ("Tick rotates a rank of 16", rank_of_16(), tick),
         ("Tick ends 15 delays", delays, tick),
         ("Tick ends 15 waits on a semaphore", waiters(1, 1), tick),
+        (
+            "Set priority out of a rank of 16",
+            rank_of_16(),
+            record(op::SET_PRIORITY, 1, 31, 0, 0),
+        ),
+        (
+            "Set turn in a rank of 16",
+            rank_of_16(),
+            record(op::SET_TURN, 1, 0, 2, 0),
+        ),
     ];
     let group = |(name, table, record): (&str, [u8; TABLE], [u8; RECORD])| Group {
         name: name.to_string(),

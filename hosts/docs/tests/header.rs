@@ -1,5 +1,5 @@
 //! What include/speltmallet.h says of each operation, its name, its fields and the order of its refusals, is what document 01's table says,
-//! and order 7 of the operations that it adds, as docs/SENTENCES.md quotes them.
+//! and orders 7 and 8 of the operations that they add and take away, as docs/SENTENCES.md quotes them.
 
 use docs::names::cells;
 use docs::text;
@@ -41,26 +41,38 @@ fn quoted() -> Vec<Operation> {
     found
 }
 
-/// What order 7 says of the operations that it adds, which no row of document 01's table has.
-const ORDER_7: [&str; 3] = [
+/// What orders 7 and 8 say of operations: of those that they add no row of document 01's table says anything.
+const ORDERS: [&str; 8] = [
     "Operation 21 takes a number from 1 to 99,999 and does that many ticks",
     "Operation 22 gives as value the least number of ticks after which, if only ticks come, some timed wait ends, and 0 if there is none",
     "−3 for 21 with 0 or above 99,999",
+    "Operation 3 is gone.",
+    "23 uses object and priority, 24 object and number.",
+    "Refusals: 23: −2, −1, −5;",
+    "24: −3, −1, −5;",
+    "Init gets −5 in both;",
 ];
 
-/// The operations of order 7, as these sentences have them; the order gives them no names.
+/// The operation of document 01 that order 8 has taken away.
+const GONE: usize = 3;
+
+/// The operations that are added, as these sentences have them; the orders give them no names.
 fn ordered() -> Vec<Operation> {
     let operation =
         |number, name: &str, uses, codes| (number, name.to_string(), fields(uses), codes);
     vec![
         operation(21, "Ticks", "number", vec![-3]),
         operation(22, "Nearest", "", vec![]),
+        operation(23, "Set priority", "object, priority", vec![-2, -1, -5]),
+        operation(24, "Set turn", "object, number", vec![-3, -1, -5]),
     ]
 }
 
 /// All operations there are.
 fn wanted() -> Vec<Operation> {
-    quoted().into_iter().chain(ordered()).collect()
+    let stays = |operation: &Operation| operation.0 != GONE;
+    let stayed = quoted().into_iter().filter(stays);
+    stayed.chain(ordered()).collect()
 }
 
 /// The comment before each operation of the header: "Name, gloss: fields.", then the refusals, each with its number first.
@@ -100,16 +112,16 @@ fn declared() -> Vec<Operation> {
 }
 
 #[test]
-fn each_operation_of_the_header_is_as_in_document_01_and_order_7() {
+fn each_operation_of_the_header_is_as_in_document_01_and_the_orders() {
     let quoted = quoted().len();
     assert_eq!(quoted, 21, "docs/SENTENCES.md quotes 21 operations");
     assert_eq!(declared(), wanted());
 }
 
 #[test]
-fn the_sentences_of_order_7_are_quoted() {
+fn the_sentences_of_the_orders_are_quoted() {
     let document = text("docs/SENTENCES.md");
-    for sentence in ORDER_7 {
+    for sentence in ORDERS {
         let quoted = document.contains(sentence);
         assert!(quoted, "docs/SENTENCES.md does not quote: {sentence}");
     }
@@ -123,6 +135,7 @@ fn the_names_that_the_header_prints_are_those_of_the_operations() {
         .expect("the header has the names of the operations");
     let (list, _) = rest.split_once('}').expect("the list ends");
     let names: Vec<&str> = list.split('"').skip(1).step_by(2).collect();
-    let wanted: Vec<String> = wanted().into_iter().map(|(_, name, ..)| name).collect();
+    let mut wanted: Vec<String> = wanted().into_iter().map(|(_, name, ..)| name).collect();
+    wanted.insert(GONE, "no operation".to_string());
     assert_eq!(names, wanted);
 }

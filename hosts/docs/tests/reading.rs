@@ -85,11 +85,11 @@ fn the_statement_that_is_read_aloud_is_the_one_that_is_proved() {
 #[test]
 fn the_edit_that_is_tried_is_a_must_fail_edit() {
     let document = text("docs/READING.md");
-    let edit = text("crates/promises/must-fail/operation_22.edit");
+    let edit = text("crates/promises/must-fail/operation_24.edit");
     let edited = text("crates/promises/specs/Malformed.antt");
-    assert!(document.contains("'s/unknown : 22 </unknown : 21 </'"));
-    assert!(edit.contains("old: unknown : 22 <") && edit.contains("new: unknown : 21 <"));
-    assert_eq!(edited.matches("unknown : 22 <").count(), 1);
+    assert!(document.contains("'s/unknown : 24 </unknown : 23 </'"));
+    assert!(edit.contains("old: unknown : 24 <") && edit.contains("new: unknown : 23 <"));
+    assert_eq!(edited.matches("unknown : 24 <").count(), 1);
 }
 
 #[test]

@@ -11,7 +11,7 @@ const TABLE: &str = "docs/SENTENCES.md";
 const COLUMNS: [&str; 4] = ["Sentence", "Definition", "Model", "Tests"];
 
 /// The sentences and clauses into which document 01 and the orders that have landed are cut.
-const SENTENCES: usize = 176;
+const SENTENCES: usize = 188;
 
 /// The file that a name of a column stands for, and the item in it.
 fn place(column: &str, name: &str) -> Option<(PathBuf, String)> {

@@ -5,16 +5,18 @@ use std::fmt;
 
 use model::operation as op;
 
+use crate::setting_sorts::SETTING_SORTS;
 use crate::sleep_sorts::SLEEP_SORTS;
 use crate::sorts::{for_each_sort, SORTS};
 use crate::view::View;
 
-/// The refusals of each operation, as document 01's table lists them, and those of order 7.
-pub const REFUSALS: [&[i32]; 23] = [
+/// The refusals of each operation, as document 01's table lists them, and those of orders 7 and 8.
+/// Operation 3 is gone.
+pub const REFUSALS: [&[i32]; 25] = [
     &[],
     &[-2, -3, -1],
     &[-1, -5],
-    &[-2, -3, -1, -5],
+    &[],
     &[-1, -4, -5],
     &[-1, -4],
     &[-3, -5],
@@ -34,14 +36,16 @@ pub const REFUSALS: [&[i32]; 23] = [
     &[-1],
     &[-3],
     &[],
+    &[-2, -1, -5],
+    &[-3, -1, -5],
 ];
 
 /// The codes with which each operation is accepted.
-const ACCEPTED: [&[i32]; 23] = [
+const ACCEPTED: [&[i32]; 25] = [
     &[0],
     &[0],
     &[0],
-    &[0],
+    &[],
     &[0],
     &[0],
     &[1],
@@ -59,6 +63,8 @@ const ACCEPTED: [&[i32]; 23] = [
     &[0],
     &[0],
     &[0, 1, -5],
+    &[0],
+    &[0],
     &[0],
     &[0],
 ];
@@ -103,8 +109,8 @@ impl Coverage {
     }
 
     /// What was met less often than so many times: every operation accepted with each of its codes,
-    /// every refusal of document 01's table, −8 of every operation, and every sort of step. Pairs
-    /// of operation and code that cannot be reached are left out.
+    /// every refusal of document 01's table, −8 of every operation and of 3, and every sort of step.
+    /// Pairs of operation and code that cannot be reached are left out.
     pub fn lacks(&self, times: u64, unreached: &[(u8, i32)]) -> Vec<String> {
         let mut lacks = Vec::new();
         for operation in 0..=op::LAST {
@@ -118,7 +124,7 @@ impl Coverage {
                 }
             }
         }
-        for sort in SORTS.iter().chain(SLEEP_SORTS) {
+        for sort in SORTS.iter().chain(SLEEP_SORTS).chain(SETTING_SORTS) {
             let met = self.sorts.get(*sort).copied().unwrap_or(0);
             if met < times {
                 lacks.push(format!("{sort}: {met} times"));

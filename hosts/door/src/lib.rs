@@ -10,6 +10,7 @@ mod lent;
 #[cfg_attr(not(emulated), path = "linked.rs")]
 mod machine;
 mod runs;
+mod setting_sorts;
 mod sleep_sorts;
 mod sorts;
 mod together;

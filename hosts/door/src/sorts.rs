@@ -2,6 +2,7 @@
 
 use model::{operation as op, wait, word, FULL_COUNT, THREADS};
 
+use crate::setting_sorts::{see_set_priority, see_set_turn};
 use crate::sleep_sorts::{see_nearest, see_ticks};
 use crate::view::View;
 
@@ -61,10 +62,6 @@ pub const SORTS: &[&str] = &[
     "Yield under lock",
     "Delete of the running thread",
     "Delete with several senders",
-    "Set of a ready thread, other priority",
-    "Set of a ready thread, same priority",
-    "Set of the running thread under lock",
-    "Set of a thread that is not ready",
     "Suspend of the running thread",
     "Suspend of a waiting thread",
     "Resume of a waiting thread",
@@ -123,6 +120,8 @@ pub fn for_each_sort(before: View, record: &[u8], after: View, see: &mut dyn FnM
     match operation {
         op::TICKS => see_ticks(before, word(record, 4), after, see),
         op::NEAREST => see_nearest(before, see),
+        op::SET_PRIORITY => see_set_priority(before, record, after, see),
+        op::SET_TURN => see_set_turn(before, record, see),
         _ => {}
     }
 }
@@ -204,7 +203,6 @@ fn see_operation(before: View, record: &[u8], after: View, see: &mut dyn FnMut(&
         op::YIELD if locked => see("Yield under lock"),
         op::YIELD if rank > 1 => see("Yield in a rank of several"),
         op::DELETE => see_delete(before, object, see),
-        op::SET => see_set(before, record, see),
         op::SUSPEND if object == running => see("Suspend of the running thread"),
         op::SUSPEND if waits => see("Suspend of a waiting thread"),
         op::RESUME if waits => see("Resume of a waiting thread"),
@@ -236,20 +234,6 @@ fn see_delete(before: View, object: usize, see: &mut dyn FnMut(&str)) {
     }
     if before.waiting((wait::SEND, object as u8)) > 1 {
         see("Delete with several senders");
-    }
-}
-
-fn see_set(before: View, record: &[u8], see: &mut dyn FnMut(&str)) {
-    let object = usize::from(record[1]);
-    if !before.ready(object) {
-        see("Set of a thread that is not ready");
-    } else if before.priority(object) == record[2] {
-        see("Set of a ready thread, same priority");
-    } else {
-        see("Set of a ready thread, other priority");
-    }
-    if object == before.running() && before.lock() > 0 {
-        see("Set of the running thread under lock");
     }
 }
 

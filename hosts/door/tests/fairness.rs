@@ -4,7 +4,8 @@
 //! unbroken part of the run where the ticks charged to that rank equal the sum of the threads'
 //! turns, each thread was charged exactly its own turn." Charges are counted from the run, not from
 //! stored counters. Order 7: "Demand 3 counts an accepted operation 21 as its single ticks: its
-//! premise is read after each, and a part may begin or end between them."
+//! premise is read after each, and a part may begin or end between them." Order 8: "demand 3's premise
+//! names 23 and 24."
 
 use std::collections::VecDeque;
 
@@ -67,8 +68,9 @@ impl Watch {
     /// Whether the premises hold over this step.
     fn holds(&self, before: View, record: &[u8], code: i32, after: View) -> bool {
         let yields = record[0] == op::YIELD && code == 0 && is_member(self.set, before.running());
-        let set = record[0] == op::SET && code == 0 && is_member(self.set, record[1].into());
-        self.set != 0 && after.ready_set(self.rank) == self.set && !yields && !set
+        let sets = [op::SET_PRIORITY, op::SET_TURN].contains(&record[0]);
+        let named = sets && code == 0 && is_member(self.set, record[1].into());
+        self.set != 0 && after.ready_set(self.rank) == self.set && !yields && !named
     }
 
     /// Counts a step over which the premises hold, and checks the part that it completes.
@@ -139,7 +141,8 @@ fn harmless(rng: &mut Rng, view: View, watch: &Watch) -> Vec<u8> {
         let harms = match operation {
             op::YIELD | op::DELAY | op::RECEIVE => by_member && view.lock() == 0,
             op::SEND | op::PEND => by_member && view.lock() == 0 && record[4] > 0,
-            op::SET | op::DELETE | op::SUSPEND => on_member,
+            op::SET_PRIORITY => on_member || record[2] == watch.rank,
+            op::SET_TURN | op::DELETE | op::SUSPEND => on_member,
             op::CREATE => record[2] == watch.rank,
             op::RESUME | op::CANCEL | op::ABORT => of_rank(object),
             // one by one many take long

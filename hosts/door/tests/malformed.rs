@@ -45,7 +45,7 @@ fn every_byte_of_every_operation() {
             let old = good[byte];
             let any = rng.bits() as u8;
             let near = [old.wrapping_add(1), old.wrapping_sub(1), old ^ 0x80];
-            let value = rng.pick(&[0, 1, 2, 23, 255, any, near[0], near[1], near[2]]);
+            let value = rng.pick(&[0, 1, 2, 3, 25, 255, any, near[0], near[1], near[2]]);
             let mut record = good;
             record[byte] = value;
             malformed += u32::from(hold.call(&board, &record, &AREA).code == -8);
@@ -68,7 +68,7 @@ fn random_bytes_as_records() {
         let board = random_sound(&mut rng);
         let mut record: [u8; 12] = random_bytes(&mut rng);
         if rng.one_in(2) {
-            record[0] %= 26;
+            record[0] %= 28;
             record[3] = 0;
         }
         hold.call(&board, &record, &AREA);

@@ -22,7 +22,6 @@ const KINDS: &[(&str, Moves)] = &[
     ("Yield", NOTHING),
     ("Create", SETS),
     ("Delete", BOTH),
-    ("Set", BOTH),
     ("Suspend", CLEARS),
     ("Resume", SETS),
     ("Delay", CLEARS),
@@ -50,6 +49,8 @@ const KINDS: &[(&str, Moves)] = &[
     ("Outcome", NOTHING),
     ("Ticks", SETS),
     ("Nearest", NOTHING),
+    ("Set priority", BOTH),
+    ("Set turn", NOTHING),
 ];
 
 /// The kind of an accepted step.
@@ -61,7 +62,6 @@ fn kind(before: View, record: &[u8], code: i32) -> &'static str {
         op::YIELD => "Yield",
         op::CREATE => "Create",
         op::DELETE => "Delete",
-        op::SET => "Set",
         op::SUSPEND => "Suspend",
         op::RESUME => "Resume",
         op::DELAY => "Delay",
@@ -88,6 +88,8 @@ fn kind(before: View, record: &[u8], code: i32) -> &'static str {
         op::TICK => "Tick",
         op::TICKS => "Ticks",
         op::NEAREST => "Nearest",
+        op::SET_PRIORITY => "Set priority",
+        op::SET_TURN => "Set turn",
         _ => "Outcome",
     }
 }

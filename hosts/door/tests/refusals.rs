@@ -1,5 +1,5 @@
-//! Every refusal of document 01's table and of order 7, by name and on its boundaries, and the order
-//! of the refusals where two conditions hold at once.
+//! Every refusal of document 01's table and of orders 7 and 8, by name and on its boundaries, and the
+//! order of the refusals where two conditions hold at once.
 
 use std::collections::BTreeSet;
 
@@ -32,17 +32,6 @@ const ON_BUSY: &[(Asked, i32)] = &[
     ((op::DELETE, 16, 0, 0, 0), -1),
     ((op::DELETE, 255, 0, 0, 0), -1),
     ((op::DELETE, 0, 0, 0, 0), -5),
-    ((op::SET, 1, 32, 1, 0), -2),
-    ((op::SET, 8, 32, 0, 0), -2),
-    ((op::SET, 0, 32, 0, 0), -2),
-    ((op::SET, 1, 31, 0, 0), -3),
-    ((op::SET, 1, 31, 100_000, 0), -3),
-    ((op::SET, 8, 31, 0, 0), -3),
-    ((op::SET, 0, 31, u32::MAX, 0), -3),
-    ((op::SET, 8, 31, 1, 0), -1),
-    ((op::SET, 16, 31, 99_999, 0), -1),
-    ((op::SET, 0, 0, 10, 0), -5),
-    ((op::SET, 0, 31, 99_999, 0), -5),
     ((op::SUSPEND, 8, 0, 0, 0), -1),
     ((op::SUSPEND, 16, 0, 0, 0), -1),
     ((op::SUSPEND, 3, 0, 0, 0), -4),
@@ -99,6 +88,27 @@ const ON_BUSY: &[(Asked, i32)] = &[
     ((op::TICKS, 0, 0, 100_000, 0), -3),
     ((op::TICKS, 0, 0, 1 << 17 | 1, 0), -3),
     ((op::TICKS, 0, 0, u32::MAX, 0), -3),
+    ((op::SET_PRIORITY, 1, 32, 0, 0), -2),
+    ((op::SET_PRIORITY, 1, 255, 0, 0), -2),
+    ((op::SET_PRIORITY, 8, 32, 0, 0), -2),
+    ((op::SET_PRIORITY, 16, 255, 0, 0), -2),
+    ((op::SET_PRIORITY, 0, 32, 0, 0), -2),
+    ((op::SET_PRIORITY, 8, 31, 0, 0), -1),
+    ((op::SET_PRIORITY, 16, 0, 0, 0), -1),
+    ((op::SET_PRIORITY, 255, 31, 0, 0), -1),
+    ((op::SET_PRIORITY, 0, 0, 0, 0), -5),
+    ((op::SET_PRIORITY, 0, 31, 0, 0), -5),
+    ((op::SET_TURN, 1, 0, 0, 0), -3),
+    ((op::SET_TURN, 1, 0, 100_000, 0), -3),
+    ((op::SET_TURN, 1, 0, 1 << 17 | 1, 0), -3),
+    ((op::SET_TURN, 8, 0, 0, 0), -3),
+    ((op::SET_TURN, 16, 0, 100_000, 0), -3),
+    ((op::SET_TURN, 0, 0, u32::MAX, 0), -3),
+    ((op::SET_TURN, 8, 0, 1, 0), -1),
+    ((op::SET_TURN, 16, 0, 99_999, 0), -1),
+    ((op::SET_TURN, 255, 0, 1, 0), -1),
+    ((op::SET_TURN, 0, 0, 10, 0), -5),
+    ((op::SET_TURN, 0, 0, 99_999, 0), -5),
 ];
 
 /// What Post and Post from interrupt both refuse. One thread waits on semaphore 0, so that 100 units
@@ -141,6 +151,10 @@ const UNDER_LOCK: &[(Asked, i32)] = &[
     ((op::POST_FROM_INTERRUPT, 3, 0, 1, 0), -6),
     ((op::TICKS, 0, 0, 0, 0), -3),
     ((op::TICKS, 0, 0, 100_000, 0), -3),
+    ((op::SET_PRIORITY, 1, 32, 0, 0), -2),
+    ((op::SET_PRIORITY, 0, 5, 0, 0), -5),
+    ((op::SET_TURN, 1, 0, 0, 0), -3),
+    ((op::SET_TURN, 0, 0, 3, 0), -5),
 ];
 
 const BY_INIT: &[(Asked, i32)] = &[
@@ -191,7 +205,7 @@ fn every_refusal() {
     hold.finish();
 }
 
-/// The rows above have every refusal of document 01's table and of order 7, and no other.
+/// The rows above have every refusal of document 01's table and of orders 7 and 8, and no other.
 #[test]
 fn no_refusal_is_left_out() {
     let rows = refusals()

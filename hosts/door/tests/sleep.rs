@@ -267,7 +267,7 @@ fn nearest_of_a_wait_forever_is_0() {
     hold.finish();
 }
 
-/// "−3 for 21 with 0 or above 99,999; −8 now starts above 22", on every board alike.
+/// "−3 for 21 with 0 or above 99,999", and −8 for a field that is not used, on every board alike.
 #[test]
 fn the_boundaries_of_the_refusals() {
     let mut hold = Hold::new("the boundaries of the refusals");
@@ -281,7 +281,6 @@ fn the_boundaries_of_the_refusals() {
         hold.expect(&board, &record(op::TICKS, 0, 0, 0, 1), &[0x5A; AREA], -8);
         hold.expect(&board, &record(op::NEAREST, 0, 0, 1, 0), &[0x5A; AREA], -8);
         hold.expect(&board, &record(op::NEAREST, 0, 0, 0, 1), &[0x5A; AREA], -8);
-        hold.expect(&board, &record(op::LAST + 1, 0, 0, 0, 0), &[0x5A; AREA], -8);
     }
     hold.finish();
 }

@@ -23,6 +23,8 @@ a_bad_line_stops_the_writer() {
   printf '19\n1 5 7 10\n1 5 7\n19\n' | refused write "bad line 2" "$two_records"
   printf '19\n1 5 7 10\n19' | refused write "bad line 2" "$two_records"
   printf '\n19\n' | refused write "bad line 0" ""
+  printf '19\n1 5 7 10\n3 5 7 10\n19\n' | refused write "bad line 2" "$two_records"
+  printf '19\n1 5 7 10\n24 5 7 10\n19\n' | refused write "bad line 2" "$two_records"
 }
 
 a_bad_record_stops_the_lister() {
@@ -32,6 +34,7 @@ a_bad_record_stops_the_lister() {
   ended 0 0
   printf '19\n1 5 7 10\n' | cmp - "$TRIED/out"
   printf '%b' "$two_records"'\0377\0\0\0\0\0\0\0\0\0\0\0'"$two_records" | refused list "bad record 2" '19\n1 5 7 10\n'
+  printf '%b' "$two_records"'\003\005\007\0\012\0\0\0\0\0\0\0' | refused list "bad record 2" '19\n1 5 7 10\n'
   printf '%b' "$two_records"'\023\0\0\0\0' | refused list "bad record 2" '19\n1 5 7 10\n'
   printf '\023' | refused list "bad record 0" ""
 }
@@ -84,6 +87,14 @@ fields_have_the_names_of_the_rules() {
   has " 13 SEMAPHORE NUMBER       Pend" "$TRIED/operations"
   has " 21 NUMBER                 Ticks" "$TRIED/operations"
   has " 22                        Nearest" "$TRIED/operations"
+  has " 23 THREAD PRIORITY        Set priority" "$TRIED/operations"
+  has " 24 THREAD TURN            Set turn" "$TRIED/operations"
+}
+
+# 3 is gone, and the others keep their numbers
+an_operation_that_is_gone_is_not_in_the_help() {
+  anew
+  operations | awk '{ print $1 }' | diff <(seq 0 24 | sed '/^3$/d') -
 }
 
 # FILE SCRIPT: edits a file of the scratch checkout's rules by sed.
@@ -104,7 +115,7 @@ operations_come_and_go_with_the_rules() {
   printf '  %3d SEMAPHORE NUMBER       Wait for a lane\n' $((last + 1)) | cat "$TRIED/before_it" - | diff - "$TRIED/after_it"
   # Lock goes, and its number stays free
   edited src/lib.rt '/^    Lock,/d'
-  edited specs/Requests.antt 's/uses .*Ask\.Lock)/none/'
+  edited specs/Requests.antt 's/uses .*Ask\.Lock)/gone/'
   operations | diff <(sed '/ Lock$/d' "$TRIED/after_it") -
 }
 

@@ -55,7 +55,6 @@ impl Kernel {
             op::YIELD => self.yield_turn(),
             op::CREATE => self.create(object, priority, number),
             op::DELETE => self.delete(object),
-            op::SET => self.set(object, priority, number),
             op::SUSPEND => self.suspend(object),
             op::RESUME => self.resume(object),
             op::DELAY => self.delay(number),
@@ -75,6 +74,8 @@ impl Kernel {
             op::OUTCOME => self.outcome(object),
             op::TICKS => self.ticks(number),
             op::NEAREST => self.nearest(),
+            op::SET_PRIORITY => self.set_priority(object, priority),
+            op::SET_TURN => self.set_turn(object, number),
             _ => Err(code::MALFORMED),
         }
     }

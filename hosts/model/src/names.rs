@@ -18,12 +18,14 @@ pub const FULL_COUNT: u8 = 99;
 /// "Lock nesting 0 to 255."
 pub const DEEPEST_LOCK: u8 = 255;
 
-/// The operations: "Numbers 0 to 16 are 001's call list." Order 7 adds 21 and 22.
+/// The operations: "Numbers 0 to 16 are 001's call list." Order 7 adds 21 and 22, and order 8 puts
+/// 23 and 24 in the place of 3.
 pub mod operation {
     pub const YIELD: u8 = 0;
     pub const CREATE: u8 = 1;
     pub const DELETE: u8 = 2;
-    pub const SET: u8 = 3;
+    /// No operation. Order 8: "Operation 3 is gone."
+    pub const GONE: u8 = 3;
     pub const SUSPEND: u8 = 4;
     pub const RESUME: u8 = 5;
     pub const DELAY: u8 = 6;
@@ -43,8 +45,38 @@ pub mod operation {
     pub const OUTCOME: u8 = 20;
     pub const TICKS: u8 = 21;
     pub const NEAREST: u8 = 22;
-    /// The largest operation there is. Order 7: "−8 now starts above 22."
-    pub const LAST: u8 = NEAREST;
+    pub const SET_PRIORITY: u8 = 23;
+    pub const SET_TURN: u8 = 24;
+    /// The largest operation there is. Order 8: "−8 for 3 and above 24."
+    pub const LAST: u8 = SET_TURN;
+
+    /// Every operation there is.
+    pub const EACH: [u8; 24] = [
+        YIELD,
+        CREATE,
+        DELETE,
+        SUSPEND,
+        RESUME,
+        DELAY,
+        CANCEL,
+        SEND,
+        SEND_FROM_INTERRUPT,
+        RECEIVE,
+        MAKE,
+        DROP,
+        PEND,
+        ABORT,
+        POST,
+        POST_FROM_INTERRUPT,
+        LOCK,
+        UNLOCK,
+        TICK,
+        OUTCOME,
+        TICKS,
+        NEAREST,
+        SET_PRIORITY,
+        SET_TURN,
+    ];
 }
 
 /// The codes: "code 0 is done and 1 is blocked", and the refusals.
@@ -66,7 +98,7 @@ pub mod code {
     pub const SEMAPHORE: i32 = -6;
     /// "table unsound, or answer area not 8 bytes"
     pub const UNSOUND: i32 = -7;
-    /// "record not 12 bytes, operation above [22, order 7], byte 3 or an unused field not zero"
+    /// "record not 12 bytes, operation [3 or above 24, order 8], byte 3 or an unused field not zero"
     pub const MALFORMED: i32 = -8;
 }
 

@@ -8,8 +8,8 @@ use crate::rng::Rng;
 /// A random record that −8 does not refuse. All operations are equally frequent; the fields that
 /// an operation uses hold anything, often a boundary.
 pub fn random_request(rng: &mut Rng) -> [u8; RECORD] {
-    let operation = rng.below(usize::from(op::LAST) + 1) as u8;
-    let uses = uses(operation).expect("the operation is at most 22");
+    let operation = rng.pick(&op::EACH);
+    let uses = uses(operation).expect("there is this operation");
     let mut small = |used| if used { random_byte(rng) } else { 0 };
     let (object, priority) = (small(uses.object), small(uses.priority));
     let mut large = |used| if used { random_word(rng) } else { 0 };

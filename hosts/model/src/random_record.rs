@@ -8,8 +8,8 @@ use crate::table::{at, word};
 /// A random record. All operations are about equally frequent; fields fit the table most of the
 /// time or stand on a boundary. One record in 32 is changed, which mostly makes it malformed.
 pub fn random_record(rng: &mut Rng, table: &[u8]) -> [u8; RECORD] {
-    let operation = rng.below(usize::from(op::LAST) + 1) as u8;
-    let uses = uses(operation).expect("the operation is at most 22");
+    let operation = rng.pick(&op::EACH);
+    let uses = uses(operation).expect("there is this operation");
     let object = match operation {
         op::MAKE | op::DROP | op::PEND | op::POST | op::POST_FROM_INTERRUPT => {
             semaphore_for(rng, table, operation)
@@ -32,12 +32,12 @@ pub fn random_record(rng: &mut Rng, table: &[u8]) -> [u8; RECORD] {
     record
 }
 
-/// One byte after the operation becomes something else, or the operation goes above 22. A byte of
-/// a field that is used gives another record that may be well formed.
+/// One byte after the operation becomes something else, or the operation becomes 3 or goes above 24.
+/// A byte of a field that is used gives another record that may be well formed.
 fn malform(rng: &mut Rng, record: &mut [u8; RECORD]) {
     let any = rng.between(1, 255) as u8;
     match rng.below(3) {
-        0 => record[0] = rng.pick(&[23, 24, 99, 255, any]),
+        0 => record[0] = rng.pick(&[op::GONE, op::LAST + 1, 99, 255, any]),
         1 => record[3] = rng.pick(&[1, 255, any]),
         _ => record[rng.between(1, 11) as usize] = rng.pick(&[1, 255, any]),
     }
@@ -135,10 +135,19 @@ fn number_for(rng: &mut Rng, table: &[u8], operation: u8, object: u8) -> u32 {
     match operation {
         op::POST | op::POST_FROM_INTERRUPT => units_for(rng, table, object, edge),
         op::TICKS => ticks_for(rng, table),
+        op::SET_TURN => turn_for(rng, table, object, edge),
         op::MAKE => rng.pick(&[0, 0, 0, 1, few, 98, edge]),
         op::SEND | op::RECEIVE | op::PEND => rng.pick(&[few, few, few, FOREVER, edge]),
         _ => rng.pick(&[few, few, few, few, edge]),
     }
+}
+
+/// A turn to be set: few, the one that the thread has, or around what its counter says.
+fn turn_for(rng: &mut Rng, table: &[u8], object: u8, edge: u32) -> u32 {
+    let i = usize::from(object) % THREADS;
+    let (turn, left) = (wide(table, i, at::TURN), wide(table, i, at::COUNTER));
+    let few = rng.between(1, 5);
+    rng.pick(&[few, few, turn, left, left.saturating_sub(1), edge])
 }
 
 /// The most ticks of one record, but for few.

@@ -1,5 +1,5 @@
-//! Random traces in which time passes: threads of a few ranks come and go, are set, wait and are
-//! suspended, and ticks are charged to them.
+//! Random traces in which time passes: threads of a few ranks come and go, get other priorities and
+//! turns, wait and are suspended, and ticks are charged to them.
 
 use crate::door::{door, AREA};
 use crate::names::{operation as op, LONGEST, THREADS};
@@ -54,19 +54,25 @@ impl Mix {
         let mut named = |field, value| thread_with(rng, table, field, value);
         let (free, used) = (named(at::IN_USE, 0), named(at::IN_USE, 1));
         let suspended = named(at::SUSPENDED, 1);
+        let (rank, turn) = (rng.pick(&self.ranks), rng.between(1, self.longest));
         match rng.below(12) {
-            0..=2 => self.settings(rng, op::CREATE, free),
-            3 => self.settings(rng, op::SET, used),
+            0..=2 => record(op::CREATE, free, rank, turn, 0),
+            3 => setting(rng, used, rank, turn),
             4 => record(op::DELETE, used, 0, 0, 0),
             5 => record(op::RESUME, suspended, 0, 0, 0),
             _ => random_record(rng, table),
         }
     }
+}
 
-    /// A Create or a Set of this thread.
-    fn settings(&self, rng: &mut Rng, operation: u8, thread: u8) -> [u8; RECORD] {
-        let turn = rng.between(1, self.longest);
-        record(operation, thread, rng.pick(&self.ranks), turn, 0)
+/// The thread gets this rank or this turn; one in 16 asks for both by operation 3, which is gone.
+fn setting(rng: &mut Rng, thread: u8, rank: u8, turn: u32) -> [u8; RECORD] {
+    if rng.one_in(16) {
+        return record(op::GONE, thread, rank, turn, 0);
+    }
+    match rng.one_in(2) {
+        true => record(op::SET_PRIORITY, thread, rank, 0, 0),
+        false => record(op::SET_TURN, thread, 0, turn, 0),
     }
 }
 

@@ -46,18 +46,19 @@ pub fn record(operation: u8, object: u8, priority: u8, number: u32, data: u32) -
 }
 
 /// The column "Uses" of the table of operations. Order 7: "Operation 21 takes a number", and 22
-/// nothing. Nothing for an operation above 22.
+/// nothing. Order 8: "23 uses object and priority, 24 object and number." Nothing for 3 and above 24.
 pub fn uses(operation: u8) -> Option<Uses> {
     let (object, priority, number, data) = match operation {
         op::YIELD | op::LOCK | op::UNLOCK | op::TICK => (false, false, false, false),
         op::NEAREST => (false, false, false, false),
-        op::CREATE | op::SET => (true, true, true, false),
+        op::CREATE => (true, true, true, false),
+        op::SET_PRIORITY => (true, true, false, false),
         op::DELETE | op::SUSPEND | op::RESUME | op::CANCEL => (true, false, false, false),
         op::DROP | op::ABORT | op::OUTCOME => (true, false, false, false),
         op::DELAY | op::RECEIVE | op::TICKS => (false, false, true, false),
         op::SEND => (true, false, true, true),
         op::SEND_FROM_INTERRUPT => (true, false, false, true),
-        op::MAKE | op::PEND => (true, false, true, false),
+        op::MAKE | op::PEND | op::SET_TURN => (true, false, true, false),
         op::POST | op::POST_FROM_INTERRUPT => (true, false, true, false),
         _ => return None,
     };
@@ -69,7 +70,7 @@ pub fn uses(operation: u8) -> Option<Uses> {
     })
 }
 
-/// −8: "record not 12 bytes, operation above [22, order 7], byte 3 or an unused field not zero"
+/// −8: "record not 12 bytes, operation [3 or above 24, order 8], byte 3 or an unused field not zero"
 pub(crate) fn parse(record: &[u8]) -> Result<Request, i32> {
     if record.len() != RECORD {
         return Err(code::MALFORMED);

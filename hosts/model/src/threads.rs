@@ -1,4 +1,5 @@
-//! The operations on threads: Yield, Create, Delete, Set, Suspend, Resume, Delay and Cancel.
+//! The operations on threads: Yield, Create, Delete, Suspend, Resume, Delay, Cancel, Set priority
+//! and Set turn.
 
 use crate::kernel::{Kernel, Reply, Thread, Wait, DONE};
 use crate::names::{code, outcome, INIT, LONGEST, PRIORITIES, THREADS};
@@ -66,28 +67,6 @@ impl Kernel {
         DONE
     }
 
-    /// "Set: −5 for Init. New priority and turn; a ready thread takes a full counter and, only if
-    /// the priority differs, goes to the new line's tail; any other keeps its counter."
-    pub fn set(&mut self, object: u8, priority: u8, turn: u32) -> Reply {
-        check_priority(priority)?;
-        check_turn(turn)?;
-        let i = self.thread_in_use(object)?;
-        if i == INIT {
-            return Err(code::OPERATION);
-        }
-        self.thread_mut(i).turn = turn;
-        if !self.is_ready(i) {
-            self.thread_mut(i).priority = priority;
-        } else if self.thread(i).priority == priority {
-            self.thread_mut(i).counter = turn;
-        } else {
-            self.leave_line(i);
-            self.thread_mut(i).priority = priority;
-            self.enter_ready(i);
-        }
-        DONE
-    }
-
     /// "Suspend: −5 for Init, or the running thread under lock; a ready thread leaves its line
     /// with counter 0." −4 comes before it: "already suspended".
     pub fn suspend(&mut self, object: u8) -> Reply {
@@ -133,6 +112,42 @@ impl Kernel {
         }
         self.end_wait(i, outcome::FAILED, 0);
         DONE
+    }
+
+    /// Order 8: "operation 23 sets the priority (a ready thread whose priority differs goes to the
+    /// new tail with a full counter; the same priority changes nothing)". A thread that is not ready
+    /// stays where it waits and keeps its counter.
+    pub fn set_priority(&mut self, object: u8, priority: u8) -> Reply {
+        check_priority(priority)?;
+        let i = self.thread_to_set(object)?;
+        if !self.is_ready(i) {
+            self.thread_mut(i).priority = priority;
+        } else if self.thread(i).priority != priority {
+            self.leave_line(i);
+            self.thread_mut(i).priority = priority;
+            self.enter_ready(i);
+        }
+        DONE
+    }
+
+    /// Order 8: "operation 24 sets the turn (a ready thread takes a full counter and keeps its place;
+    /// otherwise only the turn changes)."
+    pub fn set_turn(&mut self, object: u8, turn: u32) -> Reply {
+        check_turn(turn)?;
+        let i = self.thread_to_set(object)?;
+        self.thread_mut(i).turn = turn;
+        if self.is_ready(i) {
+            self.thread_mut(i).counter = turn;
+        }
+        DONE
+    }
+
+    /// The object as a thread whose priority or turn is set. Order 8: "−1, −5; Init gets −5 in both".
+    fn thread_to_set(&self, object: u8) -> Result<usize, i32> {
+        match self.thread_in_use(object)? {
+            INIT => Err(code::OPERATION),
+            i => Ok(i),
+        }
     }
 
     /// Whether `i` is "the running thread under lock".

@@ -1,6 +1,6 @@
 //! Order 2: each kind of line that stops the writer, beside a line that is accepted.
 
-use model::{record, write, Written, LONGEST_LINE};
+use model::{operation, record, write, Written, LONGEST_LINE};
 
 /// A good line, and its record.
 const GOOD: &str = "17\n";
@@ -64,8 +64,10 @@ fn an_operation_that_minus_8_refuses_is_bad() {
     accepted("20 1", record(20, 1, 0, 0, 0));
     accepted("21 1", record(21, 0, 0, 1, 0));
     accepted("22", record(22, 0, 0, 0, 0));
+    accepted("23 1 1", record(23, 1, 1, 0, 0));
+    accepted("24 1 1", record(24, 1, 0, 1, 0));
     for fields in ["", " 1", " 1 1", " 1 1 1"] {
-        for operation in 23..=600 {
+        for operation in [3].into_iter().chain(25..=600) {
             bad(format!("{operation}{fields}").as_bytes());
         }
         for operation in [1_u64 << 32, (1 << 32) + 17, u64::MAX, u64::MAX - 255 + 17] {
@@ -87,6 +89,12 @@ fn a_number_too_large_for_its_field_is_bad() {
     bad(b"9 256 4294967295");
     bad(b"9 255 4294967296");
     accepted("10 4294967295", record(10, 0, 0, u32::MAX, 0));
+    accepted("23 255 255", record(23, 255, 255, 0, 0));
+    bad(b"23 256 255");
+    bad(b"23 255 256");
+    accepted("24 255 4294967295", record(24, 255, 0, u32::MAX, 0));
+    bad(b"24 256 4294967295");
+    bad(b"24 255 4294967296");
     let wrapping = ["4294967297", "9999999999", "18446744073709551615"];
     let longer = ["18446744073709551616", "18446744073709551617"];
     for large in wrapping.into_iter().chain(longer) {
@@ -163,13 +171,13 @@ fn signs_points_and_other_notations_are_bad() {
 #[test]
 fn a_line_has_exactly_the_fields_that_its_operation_uses() {
     let fields = [
-        0, 3, 1, 3, 1, 1, 1, 1, 3, 2, 1, 2, 1, 2, 1, 2, 2, 0, 0, 0, 1,
+        0, 3, 1, 1, 1, 1, 1, 3, 2, 1, 2, 1, 2, 1, 2, 2, 0, 0, 0, 1, 1, 0, 2, 2,
     ];
-    for (operation, uses) in fields.into_iter().enumerate() {
+    for (operation, uses) in operation::EACH.into_iter().zip(fields) {
         for given in 0..=5 {
             let line = format!("{operation}{}", " 0".repeat(given));
             if given == uses {
-                accepted(&line, record(operation as u8, 0, 0, 0, 0));
+                accepted(&line, record(operation, 0, 0, 0, 0));
             } else {
                 bad(line.as_bytes());
             }
@@ -188,13 +196,19 @@ fn zeros_in_front_are_accepted() {
     );
     bad(b"01 0256 000255 00004294967295");
     bad(b"01 0255 000255 00004294967296");
-    bad(b"023");
-    bad(b"000023 1");
+    accepted("0023 015 0031", record(23, 15, 31, 0, 0));
+    accepted("024 015 000099999", record(24, 15, 0, 99_999, 0));
+    bad(b"025");
+    bad(b"000025 1");
+    bad(b"03 1 5 2");
+    bad(b"000003");
 }
 
 #[test]
 fn the_writer_stops_at_the_first_bad_line() {
-    let bad_lines = ["", "21", "22 0", "23", "19 ", "6 x", "20 256"];
+    let bad_lines = [
+        "", "21", "22 0", "3 1 5 2", "23 1", "24 1 5 2", "25", "19 ", "6 x", "20 256",
+    ];
     for first in bad_lines {
         for second in bad_lines {
             let text = format!("17\n17\n{first}\n17\n{second}\n17\n");

@@ -1,5 +1,6 @@
 //! "Given exactly when": the code of every request on random sound tables, against the two tables
-//! of document 01 written out once more, as conditions on the bytes in document 01's order.
+//! of document 01 and the refusals of the orders written out once more, as conditions on the bytes in
+//! their order.
 
 mod common;
 
@@ -97,7 +98,6 @@ impl Asked<'_> {
         match self.operation {
             1 => vec![priority, turn, not_free],
             2 => vec![no_thread, (self.init_or_running_under_lock(), -5)],
-            3 => vec![priority, turn, no_thread, (self.object == 0, -5)],
             4 => {
                 let kept = (self.init_or_running_under_lock(), -5);
                 vec![no_thread, (suspended, -4), kept]
@@ -118,22 +118,25 @@ impl Asked<'_> {
             18 => vec![(self.table[577] == 0, -5)],
             20 => vec![no_thread],
             21 => vec![turn],
+            23 => vec![priority, no_thread, (self.object == 0, -5)],
+            24 => vec![turn, no_thread, (self.object == 0, -5)],
             _ => vec![],
         }
     }
 }
 
 /// The operations that use the object, the priority, the number and the data.
-const OBJECT: &[u8] = &[1, 2, 3, 4, 5, 7, 8, 9, 11, 12, 13, 14, 15, 16, 20];
-const PRIORITY: &[u8] = &[1, 3];
-const NUMBER: &[u8] = &[1, 3, 6, 8, 10, 11, 13, 15, 16, 21];
+const OBJECT: &[u8] = &[1, 2, 4, 5, 7, 8, 9, 11, 12, 13, 14, 15, 16, 20, 23, 24];
+const PRIORITY: &[u8] = &[1, 23];
+const NUMBER: &[u8] = &[1, 6, 8, 10, 11, 13, 15, 16, 21, 24];
 const DATA: &[u8] = &[8, 9];
 
 fn is_malformed(record: &[u8; 12]) -> bool {
     let unused = |users: &[u8], field: &[u8]| {
         !users.contains(&record[0]) && field.iter().any(|&byte| byte != 0)
     };
-    record[0] > 22
+    record[0] == 3
+        || record[0] > 24
         || record[3] != 0
         || unused(OBJECT, &record[1..2])
         || unused(PRIORITY, &record[2..3])
@@ -141,7 +144,7 @@ fn is_malformed(record: &[u8; 12]) -> bool {
         || unused(DATA, &record[8..12])
 }
 
-/// The code that document 01's tables give, from the bytes.
+/// The code that document 01's tables and the orders give, from the bytes.
 fn code(table: &[u8], record: &[u8; 12]) -> i32 {
     if is_malformed(record) {
         return -8;
@@ -208,15 +211,10 @@ fn boards() -> Vec<Board> {
 #[test]
 fn each_code_on_every_object_and_boundary() {
     for board in boards() {
-        for operation in 0..=23 {
+        for operation in 0..=25 {
             let objects = if OBJECT.contains(&operation) { 18 } else { 2 };
-            let priorities: &[u8] = if PRIORITY.contains(&operation) {
-                &[0, 31, 32]
-            } else {
-                &[0]
-            };
             for object in 0..objects {
-                for &priority in priorities {
+                for priority in [0, 31, 32] {
                     for number in numbers() {
                         let record = model::record(operation, object, priority, number, 0);
                         let want = code(&board.table, &record);

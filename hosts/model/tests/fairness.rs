@@ -4,7 +4,7 @@
 //! where the ticks charged to that rank equal the sum of the threads' turns, each thread was
 //! charged exactly its own turn." Charges are counted from the run, not from stored counters.
 //! Order 7: "Demand 3 counts an accepted operation 21 as its single ticks: its premise is read after
-//! each, and a part may begin or end between them."
+//! each, and a part may begin or end between them." Order 8: "demand 3's premise names 23 and 24."
 
 mod common;
 
@@ -13,13 +13,16 @@ use std::collections::VecDeque;
 use common::*;
 use model::{operation as op, random_record, random_sound, word, Rng};
 
-/// Which accepted Yields end the premise.
+/// Which accepted steps end the premise.
 #[derive(Clone, Copy, PartialEq)]
-enum Yields {
-    /// Each by a member of the rank, as the demand is worded.
-    All,
-    /// Only those with lock 0: a weaker premise, from which the worded one follows.
-    Unlocked,
+enum Premise {
+    /// As the demand and order 8 are worded: each Yield by a member of the rank, and each 23 and 24
+    /// that names one.
+    Worded,
+    /// A weaker one, of which the claim as it is worded follows: Yields with lock 0, and 24. A member
+    /// to which 23 gives its own priority goes on as before, and one with another is in the rank no
+    /// more.
+    Weaker,
 }
 
 /// What is seen of one rank since its premise last began to hold.
@@ -77,15 +80,15 @@ fn turn(board: &Board, i: usize) -> u32 {
 }
 
 struct Watch {
-    yields: Yields,
+    premise: Premise,
     ranks: Vec<Rank>,
     windows: Windows,
 }
 
 impl Watch {
-    fn new(yields: Yields) -> Watch {
+    fn new(premise: Premise) -> Watch {
         Watch {
-            yields,
+            premise,
             ranks: vec![Rank::default(); 32],
             windows: Windows::default(),
         }
@@ -123,11 +126,12 @@ impl Watch {
 
     /// Whether a member of the set yields or is named in an accepted change of settings.
     fn ends(&self, before: &Board, record: &[u8; 12], code: i32, set: u16) -> bool {
-        let is_member = |i: usize| set >> i & 1 == 1;
-        let counts = self.yields == Yields::All || before.lock() == 0;
+        let is_member = |i: usize| code == 0 && set >> i & 1 == 1;
+        let worded = self.premise == Premise::Worded;
         match record[0] {
-            op::YIELD => code == 0 && counts && is_member(before.running()),
-            op::SET => code == 0 && is_member(usize::from(record[1])),
+            op::YIELD => (worded || before.lock() == 0) && is_member(before.running()),
+            op::SET_PRIORITY => worded && is_member(record[1].into()),
+            op::SET_TURN => is_member(record[1].into()),
             _ => false,
         }
     }
@@ -184,11 +188,11 @@ fn some_ticks(rng: &mut Rng) -> [u8; 12] {
 
 #[test]
 fn runs_from_fresh_are_fair() {
-    for yields in [Yields::All, Yields::Unlocked] {
+    for premise in [Premise::Worded, Premise::Weaker] {
         let mut windows = Windows::default();
         for seed in 0..120 {
             let mut rng = Rng::new(5_000 + seed);
-            let mut watch = Watch::new(yields);
+            let mut watch = Watch::new(premise);
             let ticks = rng.pick(&[12, 24, 28, 30]);
             run(&mut watch, &mut rng, &mut Board::fresh(), 1_000, ticks);
             windows.add(&watch.windows);
@@ -199,12 +203,12 @@ fn runs_from_fresh_are_fair() {
 
 #[test]
 fn runs_from_random_sound_tables_are_fair() {
-    for yields in [Yields::All, Yields::Unlocked] {
+    for premise in [Premise::Worded, Premise::Weaker] {
         let mut windows = Windows::default();
         for seed in 0..1_500 {
             let mut rng = Rng::new(9_000 + seed);
             let table = random_sound(&mut rng);
-            let mut watch = Watch::new(yields);
+            let mut watch = Watch::new(premise);
             let ticks = rng.pick(&[20, 26, 30, 31]);
             run(&mut watch, &mut rng, &mut Board { table }, 120, ticks);
             windows.add(&watch.windows);
@@ -217,7 +221,7 @@ fn runs_from_random_sound_tables_are_fair() {
 #[test]
 fn the_longest_and_the_shortest_turn_are_fair() {
     let mut board = Board::fresh();
-    let mut watch = Watch::new(Yields::All);
+    let mut watch = Watch::new(Premise::Worded);
     for record in [create(1, 5, 99_999), create(2, 5, 1)] {
         watch.step(&mut board, &record);
     }
@@ -225,6 +229,53 @@ fn the_longest_and_the_shortest_turn_are_fair() {
         watch.step(&mut board, &tick());
     }
     assert_eq!(watch.windows.of_two_or_more, 50_001);
+}
+
+/// How many of five ticks the lanes of turns 3 and 2 are charged, with this record after the first.
+fn shares_around(asked: [u8; 12]) -> [u32; 2] {
+    let mut board = Board::fresh().after(create(1, 5, 3)).after(create(2, 5, 2));
+    let mut charged = [0; 16];
+    for record in [tick(), asked, tick(), tick(), tick(), tick()] {
+        charged[board.running()] += u32::from(record == tick());
+        board.done(record);
+    }
+    [charged[1], charged[2]]
+}
+
+/// 24 with the turn that a lane has fills its counter, and the lane has a tick more than its share. 23
+/// with the priority that it has changes nothing: the premise names it all the same.
+#[test]
+fn the_turn_that_stands_breaks_the_shares_and_the_priority_that_stands_does_not() {
+    assert_eq!(shares_around(nearest()), [3, 2]);
+    assert_eq!(shares_around(set_turn(1, 3)), [4, 1]);
+    assert_eq!(shares_around(set_priority(1, 5)), [3, 2]);
+    assert_eq!(shares_around(set_priority(2, 5)), [3, 2]);
+}
+
+/// The premise is over with a 23 or a 24 that names a lane, and not with one that is refused or names
+/// the cutter; only the weaker one goes on over a 23.
+#[test]
+fn the_premise_names_23_and_24() {
+    let lanes = Board::fresh().after(create(1, 5, 3)).after(create(2, 5, 2));
+    let lanes = lanes.after(create(9, 4, 1));
+    for (record, worded, weaker) in [
+        (set_priority(1, 5), true, false),
+        (set_turn(1, 3), true, true),
+        (set_turn(2, 7), true, true),
+        (set_priority(1, 32), false, false),
+        (set_turn(1, 0), false, false),
+        (former_set(1, 5, 3), false, false),
+        (set_priority(9, 4), false, false),
+        (set_turn(9, 8), false, false),
+    ] {
+        for (premise, ends) in [(Premise::Worded, worded), (Premise::Weaker, weaker)] {
+            let mut board = lanes.clone();
+            let mut watch = Watch::new(premise);
+            watch.step(&mut board, &tick());
+            watch.step(&mut board, &record);
+            assert_eq!(watch.ranks[5].charges.is_empty(), ends, "{record:?}");
+        }
+    }
 }
 
 /// The cutter's delay ends in the fourth of six ticks at once, and the cutter has the last two; it
@@ -236,7 +287,7 @@ fn parts_begin_and_end_inside_ticks_at_once() {
     let mut board = Board::fresh().after(create(9, 7, 1));
     board.blocked(delay(4));
     board = board.after(create(1, 5, 2)).after(create(2, 5, 3));
-    let mut watch = Watch::new(Yields::All);
+    let mut watch = Watch::new(Premise::Worded);
     for record in [ticks(6), delay(50), ticks(7)] {
         watch.step(&mut board, &record);
     }

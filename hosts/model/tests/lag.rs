@@ -131,41 +131,47 @@ fn a_thread_not_ready_keeps_its_charges_and_has_lag_0() {
     }
 }
 
-/// Lane 1 goes to priority 4 with turn 5 and takes its 2 ticks along: 2 × 8 − 5 × 2 = 6, and of
-/// thread 3 0 × 8 − 3 × 2 = −6. Lane 2 is alone: 1 × 2 − 2 × 1 = 0.
+/// Lane 1 goes to priority 4 and takes its 2 ticks along: 2 × 5 − 2 × 2 = 6, and of thread 3
+/// 0 × 5 − 3 × 2 = −6. Lane 2 is alone: 1 × 2 − 2 × 1 = 0. With turn 5 lane 1 has
+/// 2 × 8 − 5 × 2 = 6, and thread 3 0 × 8 − 3 × 2 = −6.
 #[test]
-fn a_change_of_settings_keeps_the_charges_and_moves_them_to_the_new_rank() {
+fn a_change_of_priority_keeps_the_charges_and_moves_them_to_the_new_rank() {
     // before it: 2 × 4 − 2 × 3 = 2, and 1 × 4 − 2 × 3 = −2
     let case = Case::lanes_and_a_lower_one().gives(&["0 0 0", "1 2 2", "2 1 -2", "3 0 0"]);
-    let case = case.done(set(1, 4, 5));
+    let case = case.done(set_priority(1, 4));
+    let case = case.gives(&["0 0 0", "1 2 6", "2 1 0", "3 0 -6"]);
+    let case = case.done(set_turn(1, 5));
     case.gives(&["0 0 0", "1 2 6", "2 1 0", "3 0 -6"]);
 }
 
 /// Lane 1 stays with turn 7: 2 × 9 − 7 × 3 = −3, and of lane 2 1 × 9 − 2 × 3 = 3.
 #[test]
 fn the_turn_is_the_one_at_the_end() {
-    let case = Case::lanes_and_a_lower_one().done(set(1, 5, 7));
+    let case = Case::lanes_and_a_lower_one().done(set_turn(1, 7));
     case.gives(&["0 0 0", "1 2 -3", "2 1 3", "3 0 0"]);
 }
 
-/// Lane 1 is suspended and then set to priority 4 and turn 5: it stays out of every rank until it is
+/// Lane 1 is suspended and then gets priority 4 and turn 5: it stays out of every rank until it is
 /// resumed, and stands in the new one then.
 #[test]
 fn a_suspended_thread_is_set() {
     let case = Case::lanes_and_a_lower_one()
         .done(suspend(1))
-        .done(set(1, 4, 5));
+        .done(set_priority(1, 4))
+        .done(set_turn(1, 5));
     let case = case.gives(&["0 0 0", "1 2 0", "2 1 0", "3 0 0"]);
     let case = case.done(resume(1));
     case.gives(&["0 0 0", "1 2 6", "2 1 0", "3 0 -6"]);
 }
 
-/// A Set that is refused moves nothing: the figures are those before it.
+/// A change that is refused moves nothing: the figures are those before it.
 #[test]
 fn a_refused_change_of_settings_changes_nothing() {
     let case = Case::lanes_and_a_lower_one();
-    let case = case.put(set(1, 32, 5), code::PRIORITY);
-    let case = case.put(set(1, 4, 0), code::TURN);
-    let case = case.put(set(0, 5, 5), code::OPERATION);
+    let case = case.put(set_priority(1, 32), code::PRIORITY);
+    let case = case.put(set_turn(1, 0), code::TURN);
+    let case = case.put(set_priority(0, 5), code::OPERATION);
+    let case = case.put(set_turn(0, 5), code::OPERATION);
+    let case = case.put(former_set(1, 4, 5), code::MALFORMED);
     case.gives(&["0 0 0", "1 2 2", "2 1 -2", "3 0 0"]);
 }

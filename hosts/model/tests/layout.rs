@@ -33,14 +33,15 @@ fn a_record_has_its_fields_in_order() {
 }
 
 /// "Numbers 0 to 16 are 001's call list." The list is 001's table of calls, in its order; then
-/// come Lock, Unlock, Tick and Outcome, and order 7's Ticks and Nearest.
+/// come Lock, Unlock, Tick and Outcome, order 7's Ticks and Nearest, and order 8's Set priority and
+/// Set turn. Order 8: "Operation 3 is gone", which was Set.
 #[test]
 fn the_operations_have_their_numbers() {
     let in_order = [
         yield_turn(),
         create(0, 0, 0),
         delete(0),
-        set(0, 0, 0),
+        former_set(0, 0, 0),
         suspend(0),
         resume(0),
         delay(0),
@@ -60,11 +61,15 @@ fn the_operations_have_their_numbers() {
         outcome_of(0),
         ticks(0),
         nearest(),
+        set_priority(0, 0),
+        set_turn(0, 0),
     ];
     for (number, record) in in_order.into_iter().enumerate() {
         assert_eq!(usize::from(record[0]), number);
     }
     assert_eq!(usize::from(operation::LAST), in_order.len() - 1);
+    let numbers = (0..=24).filter(|&number| number != 3);
+    assert!(numbers.eq(operation::EACH));
 }
 
 /// "an 8-byte answer area (code as signed 32 bits, then value), and gets the code back as the
@@ -111,7 +116,8 @@ fn a_busy_table_byte_for_byte() {
     board.done(cancel(12));
     board.done(lock());
     board.done(lock());
-    board.done(set(12, 30, 0x0001_0000));
+    board.done(set_turn(12, 0x0001_0000));
+    board.done(set_priority(12, 30));
 
     let mut want = fresh();
     let thread = |narrow: [u8; 8], turn: [u8; 4], counter: [u8; 4], rest: [u8; 8]| {

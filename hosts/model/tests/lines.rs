@@ -35,8 +35,8 @@ fn leaving_a_ready_line_closes_the_gap() {
         for leave in [
             suspend(gone),
             delete(gone),
-            set(gone, 6, 1),
-            set(gone, 4, 1),
+            set_priority(gone, 6),
+            set_priority(gone, 4),
         ] {
             let board = three().after(leave);
             let places = left.iter().map(|&i| board.seen(usize::from(i)).place);
@@ -123,7 +123,7 @@ fn an_equal_priority_does_not_outrank() {
 fn under_lock_the_running_thread_does_not_change() {
     let mut board = three().after(lock());
     board.done(create(9, 31, 1));
-    board.done(set(1, 1, 1));
+    board.done(set_priority(1, 1));
     board.ticks(3);
     board.done(yield_turn());
     assert_eq!((board.running(), board.seen(1).priority), (1, 1));
@@ -135,8 +135,8 @@ fn under_lock_the_running_thread_does_not_change() {
 #[test]
 fn a_running_thread_may_stand_behind_others_under_lock() {
     let mut board = three().after(lock());
-    board.done(set(1, 4, 3));
-    board.done(set(1, 5, 3));
+    board.done(set_priority(1, 4));
+    board.done(set_priority(1, 5));
     assert_eq!((board.running(), board.places([2, 3, 1])), (1, [1, 2, 3]));
     let before = board.clone();
     board.ticks(2);

@@ -11,12 +11,11 @@ use model::{door, fresh, list, random_line, random_listing, random_requests, wri
 use model::{random_record, record, Listed, Rng, Written, AREA, RECORD};
 
 /// Each operation with the fields that it uses, as a record and as a line.
-fn every_operation() -> [([u8; RECORD], &'static str); 23] {
+fn every_operation() -> [([u8; RECORD], &'static str); 24] {
     [
         (yield_turn(), "0"),
         (create(5, 6, 8), "1 5 6 8"),
         (delete(5), "2 5"),
-        (set(255, 254, 99_999), "3 255 254 99999"),
         (suspend(2), "4 2"),
         (resume(15), "5 15"),
         (delay(20), "6 20"),
@@ -36,6 +35,8 @@ fn every_operation() -> [([u8; RECORD], &'static str); 23] {
         (outcome_of(255), "20 255"),
         (ticks(99_999), "21 99999"),
         (nearest(), "22"),
+        (set_priority(255, 254), "23 255 254"),
+        (set_turn(15, 99_999), "24 15 99999"),
     ]
 }
 
@@ -133,8 +134,9 @@ fn bad_record(record: &[u8]) {
 
 #[test]
 fn the_lister_stops_at_the_first_record_that_minus_8_refuses() {
-    for operation in 23..=255 {
+    for operation in [3].into_iter().chain(25..=255) {
         bad_record(&record(operation, 0, 0, 0, 0));
+        bad_record(&record(operation, 1, 5, 2, 0));
     }
     for (record, _) in every_operation() {
         let mut bent = record;
@@ -147,6 +149,8 @@ fn the_lister_stops_at_the_first_record_that_minus_8_refuses() {
         record(21, 1, 0, 1, 0),
         record(21, 0, 0, 1, 1),
         record(22, 0, 0, 1, 0),
+        record(23, 1, 5, 2, 0),
+        record(24, 1, 5, 2, 0),
         record(9, 0, 0, 1, 0),
         record(15, 0, 0, 0, 1),
         record(10, 0, 0, 0, 1 << 31),

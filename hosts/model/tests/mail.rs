@@ -169,7 +169,7 @@ fn a_full_mailbox_of_value_0_is_full() {
 fn a_sender_that_times_out_is_passed_over() {
     let mut board = busy();
     board.behind(send(2, 1, 11), 1);
-    board.done(set(6, 31, 7));
+    board.done(set_priority(6, 31));
     board.ticks(1);
     board.expect(outcome_of(1), (-5, 0));
     assert_eq!(board.seen(1).parcel, 0);

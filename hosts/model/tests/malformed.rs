@@ -6,31 +6,33 @@ mod common;
 use common::*;
 use model::{door, fresh, record, sound, AREA, TABLE};
 
-/// The used fields of the operations, as document 01's table writes them; 21 and 22 are order 7's.
-const USES: [&str; 23] = [
-    "",
-    "object priority number",
-    "object",
-    "object priority number",
-    "object",
-    "object",
-    "number",
-    "object",
-    "object number data",
-    "object data",
-    "number",
-    "object number",
-    "object",
-    "object number",
-    "object",
-    "object number",
-    "object number",
-    "",
-    "",
-    "",
-    "object",
-    "number",
-    "",
+/// The used fields of the operations, as document 01's table writes them; 21 and 22 are order 7's, and
+/// 23 and 24 order 8's: "Operation 3 is gone."
+const USES: [(u8, &str); 24] = [
+    (0, ""),
+    (1, "object priority number"),
+    (2, "object"),
+    (4, "object"),
+    (5, "object"),
+    (6, "number"),
+    (7, "object"),
+    (8, "object number data"),
+    (9, "object data"),
+    (10, "number"),
+    (11, "object number"),
+    (12, "object"),
+    (13, "object number"),
+    (14, "object"),
+    (15, "object number"),
+    (16, "object number"),
+    (17, ""),
+    (18, ""),
+    (19, ""),
+    (20, "object"),
+    (21, "number"),
+    (22, ""),
+    (23, "object priority"),
+    (24, "object number"),
 ];
 
 /// The bytes of each field.
@@ -43,8 +45,8 @@ const FIELDS: [(&str, std::ops::Range<usize>); 4] = [
 
 #[test]
 fn an_unused_field_must_be_zero_and_a_used_one_need_not() {
-    for operation in 0..=22u8 {
-        let uses: Vec<&str> = USES[usize::from(operation)].split_whitespace().collect();
+    for (operation, uses) in USES {
+        let uses: Vec<&str> = uses.split_whitespace().collect();
         for (field, bytes) in FIELDS {
             for byte in bytes {
                 for value in [1, 128, 255] {
@@ -60,7 +62,7 @@ fn an_unused_field_must_be_zero_and_a_used_one_need_not() {
 
 #[test]
 fn byte_3_must_be_zero() {
-    for operation in 0..=22 {
+    for operation in 0..=24 {
         for value in 1..=255 {
             let mut record = record(operation, 1, 1, 1, 1);
             record[3] = value;
@@ -73,13 +75,16 @@ fn byte_3_must_be_zero() {
     }
 }
 
+/// Order 8: "−8 for 3 and above 24."
 #[test]
-fn operations_above_22_are_refused() {
-    for operation in 23..=255 {
+fn operation_3_and_those_above_24_are_refused() {
+    for operation in [3].into_iter().chain(25..=255) {
         busy().refused(record(operation, 0, 0, 0, 0), -8);
         busy().refused(record(operation, 1, 5, 3, 0), -8);
+        busy().refused(record(operation, 1, 5, 0, 0), -8);
+        busy().refused(record(operation, 1, 0, 3, 0), -8);
     }
-    for operation in 0..=22 {
+    for (operation, _) in USES {
         assert_ne!(busy().ask(&record(operation, 0, 0, 0, 0)).0, -8);
     }
 }
@@ -87,14 +92,14 @@ fn operations_above_22_are_refused() {
 #[test]
 fn records_of_any_length_but_12_are_refused() {
     for length in (0..=16).chain([24, 600]) {
-        for operation in [0, 17, 19, 20, 21, 23, 255] {
+        for operation in [0, 3, 17, 19, 20, 21, 24, 25, 255] {
             let mut record = vec![0; length];
             if let Some(first) = record.first_mut() {
                 *first = operation;
             }
             let (code, value) = busy().ask(&record);
             assert_eq!(value, 0);
-            let malformed = length != 12 || operation > 22;
+            let malformed = length != 12 || operation == 3 || operation > 24;
             assert_eq!(
                 code == -8,
                 malformed,

@@ -12,10 +12,10 @@ fn case_1_priority_31_accepted_32_refused() {
     board.done(create(1, 31, 1));
     assert_eq!(board.seen(1).priority, 31);
     board.refused(create(2, 32, 1), -2);
-    board.done(set(1, 30, 1));
-    board.done(set(1, 31, 1));
-    board.refused(set(1, 32, 1), -2);
-    board.done(set(1, 0, 1));
+    board.done(set_priority(1, 30));
+    board.done(set_priority(1, 31));
+    board.refused(set_priority(1, 32), -2);
+    board.done(set_priority(1, 0));
 }
 
 #[test]
@@ -26,10 +26,10 @@ fn case_2_turn_1_and_99_999_accepted_0_and_100_000_refused() {
     board.done(create(2, 5, 99_999));
     board.refused(create(3, 5, 100_000), -3);
     assert_eq!((board.seen(1).turn, board.seen(2).turn), (1, 99_999));
-    board.refused(set(1, 5, 0), -3);
-    board.done(set(1, 5, 99_999));
-    board.done(set(1, 5, 1));
-    board.refused(set(1, 5, 100_000), -3);
+    board.refused(set_turn(1, 0), -3);
+    board.done(set_turn(1, 99_999));
+    board.done(set_turn(1, 1));
+    board.refused(set_turn(1, 100_000), -3);
 }
 
 #[test]
@@ -38,9 +38,10 @@ fn case_3_priority_before_turn_before_thread() {
     board.refused(create(0, 32, 0), -2);
     board.refused(create(0, 31, 0), -3);
     board.refused(create(0, 31, 1), -1);
-    board.refused(set(0, 32, 0), -2);
-    board.refused(set(0, 31, 0), -3);
-    board.refused(set(0, 31, 1), -5);
+    board.refused(set_priority(0, 32), -2);
+    board.refused(set_priority(0, 31), -5);
+    board.refused(set_turn(0, 0), -3);
+    board.refused(set_turn(0, 1), -5);
 }
 
 #[test]

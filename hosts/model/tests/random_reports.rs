@@ -30,7 +30,8 @@ enum Misread {
     CreateKeeps,
     /// Charges begin anew, at other steps than an accepted Create.
     RefusedCreateResets,
-    SetResets,
+    SetPriorityResets,
+    SetTurnResets,
     SuspendResets,
     WaitResets,
     /// The two sides of the lag stand the other way round.
@@ -42,15 +43,15 @@ enum Misread {
     ChargesOfTheRank,
     /// A thread that is not ready has a lag.
     LagOfNotReady,
-    /// Priority and turn are those of the creation.
-    SettingsOfTheCreation,
+    PriorityOfTheCreation,
+    TurnOfTheCreation,
     /// A deleted thread keeps its line.
     DeletedHasLine,
 }
 
 use Misread::*;
 
-const EACH: [Misread; 17] = [
+const EACH: [Misread; 19] = [
     ChargedToTheNext,
     ChargedUnderLock,
     ChargedWhereRefused,
@@ -58,7 +59,8 @@ const EACH: [Misread; 17] = [
     TicksToTheFirst,
     CreateKeeps,
     RefusedCreateResets,
-    SetResets,
+    SetPriorityResets,
+    SetTurnResets,
     SuspendResets,
     WaitResets,
     Swapped,
@@ -66,7 +68,8 @@ const EACH: [Misread; 17] = [
     SumsOfNotReadyToo,
     ChargesOfTheRank,
     LagOfNotReady,
-    SettingsOfTheCreation,
+    PriorityOfTheCreation,
+    TurnOfTheCreation,
     DeletedHasLine,
 ];
 
@@ -94,8 +97,11 @@ fn lanes(misread: Misread, steps: &[Step], board: &Board) -> [Lane; 16] {
         if lane.in_use {
             let seen = board.seen(i);
             lane.ready = !seen.suspended && seen.wait.0 == 0;
-            if misread != SettingsOfTheCreation || i == 0 {
-                (lane.priority, lane.turn) = (seen.priority, seen.turn.into());
+            if misread != PriorityOfTheCreation || i == 0 {
+                lane.priority = seen.priority;
+            }
+            if misread != TurnOfTheCreation || i == 0 {
+                lane.turn = seen.turn.into();
             }
         }
     }
@@ -134,7 +140,8 @@ fn see(misread: Misread, step: &Step, lanes: &mut [Lane; 16]) {
             };
         }
         op::CREATE if is(RefusedCreateResets) => lanes[object].charged = 0,
-        op::SET if accepted && is(SetResets) => lanes[object].charged = 0,
+        op::SET_PRIORITY if accepted && is(SetPriorityResets) => lanes[object].charged = 0,
+        op::SET_TURN if accepted && is(SetTurnResets) => lanes[object].charged = 0,
         op::SUSPEND if accepted && is(SuspendResets) => lanes[object].charged = 0,
         op::DELAY | op::SEND | op::RECEIVE | op::PEND if step.code == 1 && is(WaitResets) => {
             lanes[step.ran].charged = 0;

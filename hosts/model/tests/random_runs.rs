@@ -7,14 +7,15 @@ mod common;
 use std::collections::BTreeSet;
 
 use common::*;
-use model::{at, random_record, random_sound, wait, word, Rng};
+use model::{at, operation, random_record, random_sound, wait, word, Rng};
 
-/// The codes of each operation in document 01's order, done and blocked included, and order 7's.
-const CODES: [&[i32]; 23] = [
+/// The codes of each operation in document 01's order, done and blocked included, and those of orders
+/// 7 and 8: "Operation 3 is gone."
+const CODES: [&[i32]; 25] = [
     &[0],
     &[0, -2, -3, -1],
     &[0, -1, -5],
-    &[0, -2, -3, -1, -5],
+    &[],
     &[0, -1, -4, -5],
     &[0, -1, -4],
     &[1, -3, -5],
@@ -34,6 +35,8 @@ const CODES: [&[i32]; 23] = [
     &[1, 0, -5, -1],
     &[0, -3],
     &[0],
+    &[0, -2, -1, -5],
+    &[0, -3, -1, -5],
 ];
 
 /// The pairs of operation and code that occur.
@@ -42,7 +45,7 @@ type Pairs = BTreeSet<(u8, i32)>;
 fn wanted() -> Pairs {
     let rows = CODES.iter().zip(0u8..);
     let pairs = rows.flat_map(|(codes, op)| codes.iter().map(move |&code| (op, code)));
-    pairs.chain((0..=22).map(|op| (op, -8))).collect()
+    pairs.chain((0..=24).map(|op| (op, -8))).collect()
 }
 
 /// The first of the highest non-empty ready line, read off the bytes.
@@ -94,7 +97,7 @@ fn step(board: &mut Board, record: &[u8; 12], pairs: &mut Pairs) {
     };
     assert_eq!(value, named, "the value is 0 unless named\n{}", case());
     check_changes(&before, board, record, code, &case);
-    if record[0] <= 22 {
+    if record[0] <= 24 {
         pairs.insert((record[0], code));
     } else {
         assert_eq!(code, -8, "{}", case());
@@ -137,16 +140,13 @@ fn check_changes(
     for i in (0..16).filter(|&i| !before.is_free(i) && !after.is_free(i)) {
         let named = accepted && i == object;
         let settings = |board: &Board| (board.seen(i).priority, board.seen(i).turn);
-        if named && operation == 3 {
-            assert_eq!(settings(after), (record[2], word(record, 4)), "{}", case());
-        } else {
-            assert_eq!(
-                settings(before),
-                settings(after),
-                "settings of {i}\n{}",
-                case()
-            );
-        }
+        let (priority, turn) = settings(before);
+        let wanted = match operation {
+            23 if named => (record[2], turn),
+            24 if named => (priority, word(record, 4)),
+            _ => (priority, turn),
+        };
+        assert_eq!(settings(after), wanted, "settings of {i}\n{}", case());
         let suspended = match operation {
             4 if named => true,
             5 if named => false,
@@ -212,7 +212,8 @@ fn random_records_are_well_mixed() {
         refused += u32::from(code < 0);
         malformed += u32::from(code == -8);
     }
-    for (operation, &times) in asked[..=22].iter().enumerate() {
+    for operation in operation::EACH {
+        let times = asked[usize::from(operation)];
         assert!(times > 1_500, "operation {operation}: {times} times");
     }
     assert!((500..3_000).contains(&malformed), "{malformed} malformed");

@@ -6,7 +6,7 @@ mod common;
 use std::collections::BTreeSet;
 
 use common::*;
-use model::{at, door, fresh, random_sound, show, Rng};
+use model::{at, door, fresh, operation, random_sound, show, Rng};
 
 /// Accepted requests, and the ready lines whose bits are set after each.
 type Rows = Vec<([u8; 12], &'static [u32])>;
@@ -66,11 +66,6 @@ fn on_busy() -> Rows {
         (delete(2), &[0, 5, 20]),
         (delete(3), &[0, 4, 5]),
         (delete(7), &[0, 4, 5]),
-        (set(1, 9, 3), &[0, 4, 9]),
-        (set(1, 4, 3), &[0, 4]),
-        (set(1, 5, 9), &[0, 4, 5]),
-        (set(3, 9, 3), &[0, 4, 5]),
-        (set(7, 9, 3), &[0, 4, 5]),
         (suspend(1), &[0, 4]),
         (suspend(7), &[0, 4, 5]),
         (resume(3), &[0, 4, 5, 20]),
@@ -98,6 +93,14 @@ fn on_busy() -> Rows {
         (ticks(49), &[0, 4, 5]),
         (ticks(50), &[0, 4, 5, 20]),
         (nearest(), &[0, 4, 5]),
+        (set_priority(1, 9), &[0, 4, 9]),
+        (set_priority(1, 4), &[0, 4]),
+        (set_priority(1, 5), &[0, 4, 5]),
+        (set_priority(3, 9), &[0, 4, 5]),
+        (set_priority(7, 9), &[0, 4, 5]),
+        (set_turn(1, 9), &[0, 4, 5]),
+        (set_turn(3, 9), &[0, 4, 5]),
+        (set_turn(7, 9), &[0, 4, 5]),
     ]
 }
 
@@ -121,8 +124,8 @@ fn on_two() -> Rows {
     vec![
         (delete(1), &[0, 4, 5]),
         (delete(8), &[0, 4, 5]),
-        (set(1, 31, 3), &[0, 4, 5, 31]),
-        (set(8, 4, 3), &[0, 4, 5]),
+        (set_priority(1, 31), &[0, 4, 5, 31]),
+        (set_priority(8, 4), &[0, 4, 5]),
         (suspend(1), &[0, 4, 5]),
         (suspend(8), &[0, 4, 5]),
         (delay(9), &[0, 4, 5]),
@@ -159,7 +162,7 @@ fn every_operation_keeps_it_true() {
             operations.insert(record[0]);
         }
     }
-    assert!(operations.into_iter().eq(0..=22));
+    assert!(operations.into_iter().eq(operation::EACH));
 }
 
 /// "exactly when ready line p has a member": the first of three goes, then the last, then the one

@@ -1,6 +1,7 @@
 //! Conflicts between refusals: where two or more conditions hold at once, the first in document
-//! 01's order is given. Pairs that no sound table tells apart are absent: Delete and Set −1/−5,
-//! Suspend −1/−4, −1/−5 and −4/−5, Resume, Cancel and Abort −1/−4, Send to oneself −1/−5.
+//! 01's order, or in order 8's, is given. Pairs that no sound table tells apart are absent: Delete,
+//! Set priority and Set turn −1/−5, Suspend −1/−4, −1/−5 and −4/−5, Resume, Cancel and Abort −1/−4,
+//! Send to oneself −1/−5.
 
 mod common;
 
@@ -15,14 +16,16 @@ fn conflicts() -> Vec<(Board, [u8; 12], &'static [i32])> {
         (busy(), create(8, 32, 0), &[-2, -3]),
         (busy(), create(0, 32, 1), &[-2, -1]),
         (busy(), create(255, 31, 100_000), &[-3, -1]),
-        (busy(), set(16, 32, 0), &[-2, -3, -1]),
-        (busy(), set(8, 32, 100_000), &[-2, -3, -1]),
-        (busy(), set(0, 32, 0), &[-2, -3, -5]),
-        (busy(), set(1, 32, 0), &[-2, -3]),
-        (busy(), set(8, 32, 1), &[-2, -1]),
-        (busy(), set(0, 32, 1), &[-2, -5]),
-        (busy(), set(8, 31, 0), &[-3, -1]),
-        (busy(), set(0, 31, 0), &[-3, -5]),
+        (busy(), set_priority(8, 32), &[-2, -1]),
+        (busy(), set_priority(16, 255), &[-2, -1]),
+        (busy(), set_priority(0, 32), &[-2, -5]),
+        (busy_init(), set_priority(0, 255), &[-2, -5]),
+        (busy_locked(), set_priority(255, 32), &[-2, -1]),
+        (busy(), set_turn(8, 0), &[-3, -1]),
+        (busy(), set_turn(16, 100_000), &[-3, -1]),
+        (busy(), set_turn(0, 0), &[-3, -5]),
+        (busy_init(), set_turn(0, u32::MAX), &[-3, -5]),
+        (busy_locked(), set_turn(255, 0), &[-3, -1]),
         (busy_init(), delay(0), &[-3, -5]),
         (busy_init(), delay(100_000), &[-3, -5]),
         (busy_locked(), delay(0), &[-3, -5]),
@@ -73,4 +76,9 @@ fn malformed_is_tested_before_every_other_refusal_of_the_operation() {
     board.refused(record(op::TICKS, 1, 0, 0, 0), -8);
     board.refused(record(op::TICKS, 0, 0, 100_000, 1), -8);
     board.refused(record(op::NEAREST, 0, 0, 1, 0), -8);
+    board.refused(record(op::SET_PRIORITY, 0, 32, 1, 0), -8);
+    board.refused(record(op::SET_PRIORITY, 16, 31, 0, 1), -8);
+    board.refused(record(op::SET_TURN, 0, 1, 0, 0), -8);
+    board.refused(record(op::SET_TURN, 16, 0, 1, 1), -8);
+    board.refused(former_set(16, 32, 0), -8);
 }

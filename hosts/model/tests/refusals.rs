@@ -46,6 +46,37 @@ fn ticks() {
     }
 }
 
+/// Order 8: "23: −2, −1, −5 [..] Init gets −5 in both", under lock and without.
+#[test]
+fn set_priority() {
+    let set = common::set_priority;
+    for board in [busy(), busy_locked()] {
+        all_refused(&board, -2, [set(1, 32), set(1, 33), set(1, 255)]);
+        all_refused(&board, -1, [set(8, 5), set(15, 5), set(16, 5), set(255, 5)]);
+        all_refused(&board, -5, [set(0, 0), set(0, 1), set(0, 31)]);
+        for i in 1..=7 {
+            all_done(&board, [set(i, 0), set(i, 5), set(i, 20), set(i, 31)]);
+        }
+    }
+    all_refused(&Board::fresh(), -5, [set(0, 0)]);
+}
+
+/// Order 8: "24: −3, −1, −5; Init gets −5 in both", under lock and without.
+#[test]
+fn set_turn() {
+    let set = common::set_turn;
+    for board in [busy(), busy_locked()] {
+        all_refused(&board, -3, [set(1, 0), set(1, 100_000), set(1, u32::MAX)]);
+        all_refused(&board, -3, [set(1, 1 << 17 | 1), set(1, 1 << 31 | 1)]);
+        all_refused(&board, -1, [set(8, 1), set(15, 1), set(16, 1), set(255, 1)]);
+        all_refused(&board, -5, [set(0, 1), set(0, 10), set(0, 99_999)]);
+        for i in 1..=7 {
+            all_done(&board, [set(i, 1), set(i, 7), set(i, 99_999)]);
+        }
+    }
+    all_refused(&Board::fresh(), -5, [set(0, 10)]);
+}
+
 #[test]
 fn create() {
     let board = busy();
@@ -76,21 +107,6 @@ fn delete() {
     }
     for i in 2..=7 {
         all_done(&busy_locked(), [delete(i)]);
-    }
-}
-
-#[test]
-fn set() {
-    let set = common::set;
-    let board = busy();
-    all_refused(&board, -2, [set(1, 32, 1), set(1, 255, 1)]);
-    all_refused(&board, -3, [set(1, 5, 0), set(1, 5, 100_000)]);
-    all_refused(&board, -3, [set(1, 5, u32::MAX)]);
-    all_refused(&board, -1, [set(8, 5, 1), set(16, 5, 1), set(255, 5, 1)]);
-    all_refused(&board, -5, [set(0, 0, 10), set(0, 31, 99_999)]);
-    for i in 1..=7 {
-        all_done(&board, [set(i, 31, 99_999), set(i, 0, 1)]);
-        all_done(&busy_locked(), [set(i, 31, 99_999), set(i, 0, 1)]);
     }
 }
 

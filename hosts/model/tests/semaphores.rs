@@ -41,7 +41,7 @@ fn drop_ends_its_waiters_in_line_order_and_frees_the_record() {
     let mut board = four_waiters();
     // All of one rank, so that line order shows in the places.
     for i in [5, 2, 7, 3] {
-        board.done(set(i, 6, 8));
+        board.done(set_priority(i, 6));
     }
     board.done(drop_semaphore(4));
     assert_eq!(board.record(20), [0; 24]);
@@ -218,7 +218,7 @@ fn under_lock_a_thread_posts_up_to_the_same_limit_and_an_interrupt_nothing() {
 fn served_waiters_of_one_rank_become_ready_in_line_order() {
     let mut board = four_waiters();
     for i in [5, 2, 7, 3] {
-        board.done(set(i, 6, 8));
+        board.done(set_priority(i, 6));
     }
     board.done(post(4, 4));
     assert_eq!((board.running(), board.places([5, 2, 3])), (5, [1, 2, 3]));

@@ -1,4 +1,5 @@
-//! The operations on threads: Yield, Create, Delete, Set, Suspend, Resume, Delay and Cancel.
+//! The operations on threads: Yield, Create, Delete, Suspend, Resume, Delay and Cancel. `settings.rs`
+//! has Set priority and Set turn.
 
 mod common;
 
@@ -109,58 +110,6 @@ fn delete_frees_a_thread_in_every_state() {
     assert_eq!(busy().after(delete(1)).running(), 2);
     assert_eq!(busy().after(delete(2)).running(), 6);
     assert_eq!(busy_locked().after(delete(2)).running(), 1);
-}
-
-/// "a ready thread takes a full counter and, only if the priority differs, goes to the new
-/// line's tail"
-#[test]
-fn set_of_a_ready_thread() {
-    let before = three();
-    // The same priority: a full counter of the new turn, place kept.
-    for (turn, counter) in [(3, 3), (2, 2), (9, 9)] {
-        let board = before.after(set(1, 5, turn));
-        let want = Seen {
-            turn,
-            counter,
-            ..before.seen(1)
-        };
-        assert_eq!((board.seen(1), board.running()), (want, 1));
-        board.only_changed(&before, &[1]);
-    }
-    let board = before.after(set(2, 5, 9));
-    assert_eq!((board.seen(2).counter, board.seen(2).place), (9, 2));
-    // Another priority: the tail of the new line.
-    let board = before.after(create(4, 4, 7)).after(set(1, 4, 3));
-    assert_eq!(
-        (board.running(), board.places([2, 3, 4, 1])),
-        (2, [1, 2, 1, 2])
-    );
-    assert_eq!(board.seen(1).counter, 3);
-    let board = before.after(set(3, 6, 2));
-    assert_eq!((board.running(), board.places([3, 1, 2])), (3, [1, 1, 2]));
-    assert_eq!((board.seen(3).counter, board.seen(1).counter), (2, 2));
-}
-
-/// "any other keeps its counter"
-#[test]
-fn set_of_a_thread_that_is_not_ready() {
-    let before = busy().after(suspend(4)).after(suspend(6));
-    for i in [3, 4, 5, 6, 7] {
-        let board = before.after(set(i, 31, 99_999));
-        let i = usize::from(i);
-        let want = Seen {
-            priority: 31,
-            turn: 99_999,
-            ..before.seen(i)
-        };
-        assert_eq!(board.seen(i), want);
-        board.only_changed(&before, &[i]);
-    }
-    // The new settings hold when the wait ends.
-    let board = busy().after(set(4, 3, 11)).after(cancel(4));
-    let seen = board.seen(4);
-    assert_eq!((seen.priority, seen.turn, seen.counter), (3, 11, 11));
-    assert_eq!(board.running(), 1);
 }
 
 /// "Suspend: [...] a ready thread leaves its line with counter 0."

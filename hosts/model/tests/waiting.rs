@@ -195,7 +195,8 @@ fn an_outcome_stays_until_the_thread_next_waits() {
     let mut board = about_to_wait();
     board.done(yield_turn());
     board.ticks(9);
-    board.done(set(1, 6, 3));
+    board.done(set_priority(1, 6));
+    board.done(set_turn(1, 3));
     board.done(suspend(1));
     board.done(resume(1));
     board.done(interrupt_send(1, 5));

@@ -63,7 +63,8 @@ impl Run {
         let record = match rng.below(16) {
             0 => record(op::TICK, 1, 0, 0, 0),
             1 => create(CUTTER, 31, few),
-            2 => set(CUTTER, 31, few),
+            2 => set_turn(CUTTER, few),
+            3 if rng.one_in(2) => set_priority(CUTTER, 31),
             3 => delete(CUTTER),
             4 if rng.one_in(2) => lock(),
             5 | 6 => unlock(),

@@ -131,6 +131,12 @@ fn a_whole_roll_at_once() {
     shows("examples/README.md", heading, "examples/roll.listing");
 }
 
+#[test]
+fn a_lanes_turn_without_its_priority() {
+    let heading = "A lane's turn, without its priority";
+    shows("examples/README.md", heading, "examples/settings.listing");
+}
+
 /// The lines that are shown of the battery printer's event are those of its listing, each with what the trace prints of it: an answer begins
 /// with its line's number.
 #[test]
@@ -213,8 +219,9 @@ fn the_lanes_of_the_event_stay_ready() {
     let printed = String::from_utf8_lossy(&printed);
     let mut running = "0";
     for (record, line) in records.chunks(RECORD).zip(printed.lines()) {
-        let unsettling = [op::YIELD, op::DELETE, op::SET, op::SUSPEND];
-        assert!(!unsettling.contains(&record[0]), "{line}");
+        let set = [op::SET_PRIORITY, op::SET_TURN].contains(&record[0]);
+        let unsettling = [op::YIELD, op::DELETE, op::SUSPEND].contains(&record[0]);
+        assert!(!set && !unsettling, "{line}");
         let answer: Vec<&str> = line.split(' ').collect();
         let waits = answer[1] == "1";
         assert!(!(waits && ["1", "2"].contains(&running)), "{line}");

@@ -31,7 +31,7 @@ fn a_line_comes_out_as_its_record_comes_in() {
         program.put(record);
         program.gives(&list(record).text);
     }
-    program.put(&[23; RECORD]);
+    program.put(&[25; RECORD]);
     program.ends("bad record 200\n");
 }
 
@@ -95,11 +95,13 @@ fn a_line_of_41_characters_ends_the_writer_although_no_line_feed_comes() {
 
 #[test]
 fn a_bad_line_ends_the_writer_although_the_pipe_stays_open() {
-    let lines: [&[u8]; 8] = [
+    let lines: [&[u8]; 10] = [
         b"\n",
         b"21\n",
         b"22 0\n",
-        b"23\n",
+        b"3 1 5 8\n",
+        b"24 1 5 8\n",
+        b"25\n",
         b"19 \n",
         b" 19\n",
         b"20 256\n",

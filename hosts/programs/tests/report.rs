@@ -151,7 +151,7 @@ fn random_bytes_are_reported_as_by_the_model() {
     let mut inputs = Vec::new();
     for length in [1, 12, 1_000, 2 * BLOCK, 60_005] {
         inputs.push((0..length).map(|_| rng.bits() as u8).collect());
-        inputs.push((0..length).map(|_| rng.below(24) as u8).collect());
+        inputs.push((0..length).map(|_| rng.below(26) as u8).collect());
     }
     hold_each(Report, &inputs);
 }

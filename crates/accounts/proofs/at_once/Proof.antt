@@ -14,10 +14,10 @@ use Rattle.accounts.proofs.at_once.Tie as tie
 
 -- the tags of all requests but operation 21's
 abbrev others : List ℕ
-others = 0 ∷ 1 ∷ 2 ∷ 3 ∷ 4 ∷ 5 ∷ 6 ∷ 7 ∷ 8 ∷ 9 ∷ 10 ∷ 11 ∷ 12 ∷ 13 ∷ 14 ∷ 15 ∷ 16 ∷ 17 ∷ 18 ∷ 19 ∷ 20 ∷ 22 ∷ []
+others = 0 ∷ 1 ∷ 2 ∷ 3 ∷ 4 ∷ 5 ∷ 6 ∷ 7 ∷ 8 ∷ 9 ∷ 10 ∷ 11 ∷ 12 ∷ 13 ∷ 14 ∷ 15 ∷ 16 ∷ 17 ∷ 18 ∷ 19 ∷ 21 ∷ 22 ∷ 23 ∷ []
 
 none-at-once : (q : Request) → OneOf others (tagOf R.the-type q) → 0 ≡ atOnce (deedOf q)
-none-at-once q k = elim (sleeps q) [ awake e ↦ sym e | asleep n e ↦ absurd (miss others 21 tt (rw e at k)) ]
+none-at-once q k = elim (sleeps q) [ awake e ↦ sym e | asleep n e ↦ absurd (miss others 20 tt (rw e at k)) ]
 
 enum-known-decoded : tie.Need-enum-known-decoded
 enum-known-decoded c = search needs

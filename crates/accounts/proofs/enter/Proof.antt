@@ -20,14 +20,13 @@ use Rattle.accounts.proofs.enter.Tie as tie
 
 -- the tags of all requests but a creation and a tick
 abbrev others : List ℕ
-others = 0 ∷ 2 ∷ 3 ∷ 4 ∷ 5 ∷ 6 ∷ 7 ∷ 8 ∷ 9 ∷ 10 ∷ 11 ∷ 12 ∷ 13 ∷ 14 ∷ 15 ∷ 16 ∷ 17 ∷ 18 ∷ 20 ∷ 21 ∷ 22 ∷ []
+others = 0 ∷ 2 ∷ 3 ∷ 4 ∷ 5 ∷ 6 ∷ 7 ∷ 8 ∷ 9 ∷ 10 ∷ 11 ∷ 12 ∷ 13 ∷ 14 ∷ 15 ∷ 16 ∷ 17 ∷ 19 ∷ 20 ∷ 21 ∷ 22 ∷ 23 ∷ []
 
 nothing-entered : (ns : List ℕ) (q : Request) (ran lock : ℕ) → OneOf others (tagOf R.the-type q) → ns ≡ entered ns (deedOf q) ran lock
 nothing-entered ns (Ask.Create i p n) ran lock k = absurd (miss others 1 tt k)
-nothing-entered ns Ask.Tick ran lock k = absurd (miss others 19 tt k)
+nothing-entered ns Ask.Tick ran lock k = absurd (miss others 18 tt k)
 nothing-entered ns Ask.Yield ran lock k = refl
 nothing-entered ns (Ask.Delete i) ran lock k = refl
-nothing-entered ns (Ask.Set i p n) ran lock k = refl
 nothing-entered ns (Ask.Suspend i) ran lock k = refl
 nothing-entered ns (Ask.Resume i) ran lock k = refl
 nothing-entered ns (Ask.Delay n) ran lock k = refl
@@ -46,6 +45,8 @@ nothing-entered ns Ask.Unlock ran lock k = refl
 nothing-entered ns (Ask.Outcome i) ran lock k = refl
 nothing-entered ns (Ask.Ticks n) ran lock k = refl
 nothing-entered ns Ask.Nearest ran lock k = refl
+nothing-entered ns (Ask.SetPriority i p) ran lock k = refl
+nothing-entered ns (Ask.SetTurn i n) ran lock k = refl
 
 enum-told : tie.Need-enum-told
 enum-told c = search needs

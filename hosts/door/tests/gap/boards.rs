@@ -187,8 +187,10 @@ impl Maker {
         self.ask(op::SUSPEND, i, 0, 0, 0);
     }
 
+    /// The thread gets this priority, and a turn of its own.
     fn set(&mut self, i: usize, priority: u8) {
-        self.ask(op::SET, i, priority, 2 + i as u32, 0);
+        self.ask(op::SET_PRIORITY, i, priority, 0, 0);
+        self.ask(op::SET_TURN, i, 0, 2 + i as u32, 0);
     }
 
     /// The thread comes to wait, if that is its seat, and every third is suspended then. Its priority

@@ -173,32 +173,32 @@ fn take_from(kind: Kind, number: u8, longest: usize, count: usize) {
 
 #[test]
 fn the_ready_line_with_init() {
-    let others = 135 * (2 * 2 + 3 * 3) + 15 * 4;
+    let others = 135 * (2 * 2 + 4 * 3) + 15 * 4;
     take_from(Kind::Ready, 0, 16, others + (16 + 136 * 2) * 3);
 }
 
 #[test]
 fn another_ready_line() {
-    let count = 120 * (2 * 2 + 3 * 3) + 15 * 4 + (15 + 120 * 2) * 3;
+    let count = 120 * (2 * 2 + 4 * 3) + 15 * 4 + (15 + 120 * 2) * 3;
     take_from(Kind::Ready, 5, 15, count);
 }
 
 #[test]
 fn the_waiters_of_semaphore_0() {
-    take_from(Kind::Waiters, 0, 15, 2 * 120 * (11 * 2 + 2));
+    take_from(Kind::Waiters, 0, 15, 2 * 120 * (12 * 2 + 2));
 }
 
 #[test]
 fn the_waiters_of_another_semaphore() {
-    take_from(Kind::Waiters, 5, 15, 2 * 120 * (11 * 2 + 2));
+    take_from(Kind::Waiters, 5, 15, 2 * 120 * (12 * 2 + 2));
 }
 
 #[test]
 fn the_senders_to_init() {
-    take_from(Kind::Senders, 0, 15, 2 * ((120 * 3 - 15) * 7 + 15 * 2));
+    take_from(Kind::Senders, 0, 15, 2 * ((120 * 3 - 15) * 8 + 15 * 2));
 }
 
 #[test]
 fn the_senders_to_another_thread() {
-    take_from(Kind::Senders, 5, 14, 2 * (105 * (8 * 3 + 2 * 2) + 14 * 2));
+    take_from(Kind::Senders, 5, 14, 2 * (105 * (9 * 3 + 2 * 2) + 14 * 2));
 }

@@ -73,7 +73,8 @@ impl Way {
     fn is_refused_to_init(&self, case: &Case) -> bool {
         let (operation, object, ..) = self.asked;
         match operation {
-            op::DELETE | op::SET | op::SUSPEND => object == INIT,
+            op::DELETE | op::SUSPEND => object == INIT,
+            op::SET_PRIORITY | op::SET_TURN => object == INIT,
             op::DELAY | op::SEND | op::RECEIVE | op::PEND => case.it() == INIT,
             _ => false,
         }
@@ -99,6 +100,14 @@ fn on(operation: u8, object: usize) -> Asked {
     (operation, object, 0, 0, 0)
 }
 
+fn set_priority(thread: usize, priority: u8) -> Asked {
+    (op::SET_PRIORITY, thread, priority, 0, 0)
+}
+
+fn set_turn(thread: usize) -> Asked {
+    (op::SET_TURN, thread, 0, 9, 0)
+}
+
 /// The ways for the thread of the case. Their names, and where they are accepted, are the same for
 /// all threads of all lines of its kind.
 pub fn ways(case: &Case) -> Vec<Way> {
@@ -119,9 +128,10 @@ fn ready_ways(ways: &mut Ways, case: &Case) {
     let (s, ended) = (beside.into(), case.with_senders(it));
     ways.add(ON_CALLER, "Delete", on(op::DELETE, it), &ended);
     ways.add(ON_CALLER, "Suspend", on(op::SUSPEND, it), &[it]);
-    ways.add(ALWAYS, "Set to the top", (op::SET, it, TOP, 9, 0), &[it]);
-    ways.add(ALWAYS, "Set beside", (op::SET, it, beside, 9, 0), &[it]);
-    ways.add(ALWAYS, "Set in its line", (op::SET, it, rank, 9, 0), &[]);
+    ways.add(ALWAYS, "Set to the top", set_priority(it, TOP), &[it]);
+    ways.add(ALWAYS, "Set beside", set_priority(it, beside), &[it]);
+    ways.add(ALWAYS, "Set in its line", set_priority(it, rank), &[]);
+    ways.add(ALWAYS, "Set turn", set_turn(it), &[]);
     ways.add(BY_CALLER, "Delay", (op::DELAY, 0, 0, 9, 0), &[it]);
     ways.add(BY_CALLER, "Send", (op::SEND, INIT, 0, 9, 77), &[it]);
     ways.add(BY_CALLER, "Receive", (op::RECEIVE, 0, 0, 9, 0), &[it]);
@@ -161,7 +171,7 @@ fn senders_ways(ways: &mut Ways, case: &Case) {
     ways.add(SERVED, "Receive", on(op::RECEIVE, 0), &all[..1]);
     ways.add(ON_CALLER, "Delete the receiver", on(op::DELETE, r), &ended);
     ways.add(ON_CALLER, "Suspend the receiver", on(op::SUSPEND, r), &[r]);
-    ways.add(ALWAYS, "Set the receiver", (op::SET, r, TOP, 9, 0), &[r]);
+    ways.add(ALWAYS, "Set the receiver", set_priority(r, TOP), &[r]);
     ways.add(NEVER_5, "Send from interrupt", full, &[]);
     ways.add(NEVER_4, "Cancel", on(op::CANCEL, it), &[]);
     ways.add(NEVER_4, "Abort", on(op::ABORT, it), &[]);
@@ -183,7 +193,8 @@ fn waiting_ways(ways: &mut Ways, case: &Case) {
     ways.add(ALWAYS, "Tick that ends every second wait", TICK, &second);
     ways.add(ALWAYS, "Tick that ends all but its wait", TICK, &others);
     ways.add(ALWAYS, "Tick that ends every wait", TICK, &case.waiting());
-    ways.add(ALWAYS, "Set", (op::SET, it, TOP, 9, 0), &[]);
+    ways.add(ALWAYS, "Set priority", set_priority(it, TOP), &[]);
+    ways.add(ALWAYS, "Set turn", set_turn(it), &[]);
     ways.add(ALWAYS, "Suspend or Resume", on(change, it), &[]);
     ways.add(NEVER_4, "Suspend or Resume again", on(again, it), &[]);
 }

@@ -1,10 +1,11 @@
 //! What the tests share: a board that puts requests to the door and checks what holds for every
 //! answer, the requests by their names, a busy board with a thread in every state, one on which
-//! threads wait on a semaphore, cases of the report, and the steps of a trace.
+//! threads wait on a semaphore, cases of the report, the steps of a trace, and Set as it was.
 
 #![allow(dead_code)]
 
 pub mod case;
+pub mod former;
 mod requests;
 pub mod steps;
 

@@ -14,10 +14,6 @@ pub fn delete(i: u8) -> [u8; 12] {
     record(op::DELETE, i, 0, 0, 0)
 }
 
-pub fn set(i: u8, priority: u8, turn: u32) -> [u8; 12] {
-    record(op::SET, i, priority, turn, 0)
-}
-
 pub fn suspend(i: u8) -> [u8; 12] {
     record(op::SUSPEND, i, 0, 0, 0)
 }
@@ -102,4 +98,17 @@ pub fn of_few_ticks(record: [u8; 12]) -> [u8; 12] {
 
 pub fn nearest() -> [u8; 12] {
     record(op::NEAREST, 0, 0, 0, 0)
+}
+
+pub fn set_priority(i: u8, priority: u8) -> [u8; 12] {
+    record(op::SET_PRIORITY, i, priority, 0, 0)
+}
+
+pub fn set_turn(i: u8, turn: u32) -> [u8; 12] {
+    record(op::SET_TURN, i, 0, turn, 0)
+}
+
+/// What Set was asked by, operation 3, which is gone.
+pub fn former_set(i: u8, priority: u8, turn: u32) -> [u8; 12] {
+    record(op::GONE, i, priority, turn, 0)
 }
