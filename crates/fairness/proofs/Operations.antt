@@ -14,7 +14,7 @@ use Rattle.rules.specs.State.{State, free, at, caller, counterOf, waiting, dela
 use Rattle.rules.specs.Lines.{Line, senders, ready, same, line, inLine, lineLength, isFirst, first, filled, move, settle}
 use Rattle.rules.specs.Answers.{codeOf}
 use Rattle.rules.specs.Waiting.{Step, acceptThreads, ended, endWait, serve, begun, block, mustWait}
-use Rattle.rules.specs.Threads.{badPriority, badTicks, noThread, doYield, doCreate, deleted, doDelete, stopped, doSuspend, doResume, doDelay, breakOff, doCancel, doSetPriority, doSetTurn}
+use Rattle.rules.specs.Threads.{badTicks, noThread, doYield, doCreate, deleted, doDelete, stopped, doSuspend, doResume, doDelay, breakOff, doCancel, doSetPriority, doSetTurn}
 use Rattle.rules.specs.Mail.{delivered, doSend, doSendFromInterrupt, emptied, doReceive}
 use Rattle.rules.specs.Semaphores.{doMake, doDrop, doPend, doAbort, posted, doPost, doPostFromInterrupt}
 use Rattle.rules.specs.Time.{doLock, doUnlock, timedOut, countDown, timeouts, doOutcome}

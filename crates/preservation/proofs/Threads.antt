@@ -1,13 +1,13 @@
 -- Soundness is kept by the operations on threads: Yield, Create, Delete, Suspend, Resume, Delay, Cancel, Set priority, Set turn. Assumes
 -- nothing.
 use mathlib.Core.Bool.{Bool, true, false, not, _&&_, _||_}
-use mathlib.Core.Path.{_≡_, refl, sym, _∙_}
+use mathlib.Core.Path.{_≡_, refl}
 use mathlib.Core.Logic.{_≢_}
 use Prim.Native.Nat.{ℕ}
 use native.Mathlib.Omega.{arith}
 use lib.Dec.{eqb, leb}
 use lib.ListN.{length}
-use Rattle.rules.specs.State.{State, free, at, caller, isReady, waiting, withPlace, withSuspended, withPriority, withTurn, withThreads, edit}
+use Rattle.rules.specs.State.{State, free, at, caller, isReady, waiting, withSuspended, withPriority, withTurn, withThreads, edit}
 use Rattle.rules.specs.Lines.{senders, lineLength, filled, move}
 use Rattle.rules.specs.Waiting.{endWait}
 use Rattle.rules.specs.Threads.{noThread, badPriority, badTicks, bound, created, stopped, doYield, doCreate, doSuspend, doResume, doDelay, deleted, doDelete, breakOff, doSetPriority, doSetTurn}
