@@ -1,6 +1,6 @@
 -- The former Set is operations 24 and 23, in either order. A turn leaves a thread in its line, so that who stands behind it moves up as before;
 -- a counter that is filled twice is filled; and of two settlings the second decides. Assumes nothing.
-use mathlib.Core.Bool.{Bool, true, false, not, _&&_}
+use mathlib.Core.Bool.{Bool, true, false, not, _&&_, and-false}
 use mathlib.Core.Path.{_≡_, refl, ap, sym, _∙_}
 use mathlib.Core.List.{List}
 use mathlib.Core.Logic.{_≢_}
@@ -9,9 +9,10 @@ use native.Mathlib.Omega.{arith}
 use native.Mathlib.Decide.{ℕ-discrete}
 use lib.Dec.{eqb}
 use lib.ListN.{length, set}
-use lib.Seq.{ext-getD}
+use lib.Seq.{ext-getD, set-getD}
+use borrow.Author.Tests.{eq-eqb, ne-eqb, le-ltb}
 use Rattle.rules.specs.Basic.{if_then_else_}
-use Rattle.rules.specs.Board.{Board}
+use Rattle.rules.specs.Board.{Board, topPriority}
 use Rattle.rules.specs.State.{State, free, at, withCounterOf, isReady, withPlace, withWait, withPriority, withTurn, withThreads, edit}
 use Rattle.rules.specs.Lines.{Line, same, line, inLine, lineLength, moveUp, filled, move, settle}
 use Rattle.rules.specs.Table.{encode, decode}
@@ -19,7 +20,7 @@ use Rattle.rules.specs.Answers.{areaLength}
 use Rattle.rules.specs.Waiting.{Step, acceptThreads}
 use Rattle.rules.specs.Threads.{noThread, badPriority, badTicks, doSetPriority, doSetTurn}
 use Rattle.rules.specs.Steps.{step}
-use Rattle.rules.specs.Sound.{SoundTable}
+use Rattle.rules.specs.Sound.{Sound, SoundTable}
 use Rattle.rules.specs.Door.{answered, serveDecoded, door}
 use Rattle.rules.specs.declared.Thread.{Thread}
 use Rattle.rules.specs.declared.Wait.{Wait}
@@ -33,6 +34,7 @@ use Rattle.laws.proofs.Reflect.{reflect}
 use Rattle.laws.proofs.Lines.{line-counter, ready-counter, filled-field, line-filled}
 use Rattle.laws.proofs.Members.{edit-same, edit-other, length-edit, count-ext, used-range}
 use Rattle.laws.proofs.Moves.{length-move, move-other, move-self, changed, changed-self, changed-other, length-changed}
+use Rattle.laws.proofs.Top.{settle-sound}
 use Rattle.laws.proofs.Tested.{let-in}
 use Rattle.layout.proofs.Held.{edit-edit}
 use Rattle.layout.proofs.RoundTrip.{on-decode, decode-encode}
@@ -42,7 +44,7 @@ use Rattle.preservation.proofs.Steps.{kept}
 use Rattle.fairness.proofs.Operations.{settle-threads}
 use Rattle.request.specs.Written.{written}
 use Rattle.request.proofs.Back.{decode-written}
-use Rattle.promises.specs.FormerSet.{withSettings, formerSet, Gives, FormerSet}
+use Rattle.promises.specs.FormerSet.{withSettings, formerSet, Gives, FormerSet, SamePriority}
 
 -- A COUNTER THAT IS FILLED
 
@@ -281,3 +283,24 @@ former-set = record {
       let s = decode b t in
       at-the-door b t a c (Ask.SetTurn i n) (Ask.SetPriority i p) (formerSet s i p n) σ l m (turn-first-gives s i p n e) ∙ ap (answered (encode (formerSet s i p n .state))) e;
 }
+
+-- THE SAME PRIORITY
+
+-- a ready thread that has the priority stays where it is, and any other too
+goes-not : (s : State) (i : ℕ) → goes s i (at (s .threads) i .priority) ≡ false
+goes-not s i = let p = at (s .threads) i .priority in rw (eq-eqb p p refl) (and-false (isReady (at (s .threads) i)))
+
+unchanged : (s : State) (i : ℕ) → Sound s → Open s i → doSetPriority s i (at (s .threads) i .priority) ≡ record { state = s; answer = Done 0 }
+unchanged s i σ o =
+    let p = at (s .threads) i .priority in
+    ranked s i p (le-ltb topPriority p (σ .threads i (simp reflect at (o .used)) .priority)) o
+    ∙ rw (goes-not s i, set-getD (s .threads) i free, settle-sound s σ) refl
+
+pub same-priority : SamePriority
+unfolding step
+same-priority b t a i σ l low u =
+    let s = decode b t in
+    let o : Open s i = record { used = ap not u; other = ne-eqb i 0 (omega arith) } in
+    called b t a (Ask.SetPriority i (at (s .threads) i .priority)) σ l
+    ∙ ap (λ r. answered (encode (r .state)) (r .answer)) (unchanged s i (σ .state) o)
+    ∙ ap (λ t. answered t (Done 0)) (sym (σ .meaning))

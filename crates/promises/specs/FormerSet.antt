@@ -1,9 +1,9 @@
 -- ORDER 8. "Set does two jobs. [..] Split it": wherever document 01's Set, the former operation 3, was accepted, operation 24 and then 23 are
--- accepted and give what it gave; and so do 23 and then 24.
-use mathlib.Core.Bool.{not, _&&_}
+-- accepted and give what it gave; and so do 23 and then 24. Of the two, 23 with "the same priority changes nothing".
+use mathlib.Core.Bool.{true, not, _&&_}
 use mathlib.Core.Path.{_≡_}
 use mathlib.Core.List.{List}
-use Prim.Native.Nat.{ℕ}
+use Prim.Native.Nat.{ℕ, _≤_}
 use lib.Dec.{eqb}
 use lib.ListN.{length}
 use Rattle.rules.specs.Basic.{if_then_else_}
@@ -56,3 +56,8 @@ pub record FormerSet : Type 0 where
   pub atTheDoor : (b : Board) (t a c : List ℕ) (i p n : ℕ) → SoundTable b t → length a ≡ areaLength → length c ≡ areaLength
       → formerSet (decode b t) i p n .answer ≡ Done 0
       → door b (door b t (written (Ask.SetTurn i n)) a .table) (written (Ask.SetPriority i p)) c ≡ answered (encode (formerSet (decode b t) i p n .state)) (Done 0)
+
+-- "the same priority changes nothing": of a thread that is in use and is not Init, it answers 0 and leaves the table byte for byte
+abbrev pub SamePriority : Type 0
+SamePriority = (b : Board) (t a : List ℕ) (i : ℕ) → SoundTable b t → length a ≡ areaLength → 1 ≤ i → at (decode b t .threads) i .used ≡ true
+    → door b t (written (Ask.SetPriority i (at (decode b t .threads) i .priority))) a ≡ answered t (Done 0)
