@@ -74,6 +74,16 @@ priority-filled p t = elim (test (isReady t)) [ is e ↦ rw e | isnt e ↦ rw e 
 
 -- A CHANGE BEFORE A MOVE, AND BEHIND IT
 
+-- two lists right before thread i joins, which differ in nothing but thread i: where it goes to one line, that line is as long in both
+as-long : (i : ℕ) (us ts : List Thread) (g k : Thread → Thread) → i < length ts → length us ≡ length ts
+    → line (g (withPlace 0 (at us i))) ≡ line (k (withPlace 0 (at ts i))) → ((j : ℕ) → j ≢ i → at (changed i g us) j ≡ at (changed i k ts) j)
+    → (l : Line) → lineLength l (changed i g us) ≡ lineLength l (changed i k ts)
+as-long i us ts g k h e new others l =
+    count-ext (inLine l) (changed i k ts) (changed i g us) (length-changed i g us ∙ e ∙ sym (length-changed i k ts)) (λ j. elim (ℕ-discrete j i) [
+      | yes q ↦ rw (q, changed-self i g us (rw e h), changed-self i k ts h) (ap (λ m. same m l) new)
+      | no q ↦ ap (inLine l) (others j q)
+    ])
+
 module _ (i : ℕ) (ts : List Thread) (h : i < length ts) where
   -- thread i is changed by f, which leaves it where it stands, and moves by g: as if it moved by k at once
   move-edited : (f g k : Thread → Thread) → line (f (at ts i)) ≡ line (at ts i) → f (at ts i) .place ≡ at ts i .place
@@ -82,17 +92,13 @@ module _ (i : ℕ) (ts : List Thread) (h : i < length ts) where
       → move i g (edit i f ts) ≡ move i k ts
   move-edited f g k l z new full =
       let us = edit i f ts in
-      let h' : i < length us = rw (length-edit ts i f) h in
+      let e : length us ≡ length ts = length-edit ts i f in
       let self : at us i ≡ f (at ts i) = edit-same ts i f h in
       let others : (j : ℕ) → j ≢ i → moveUp (line (at us i)) (at us i .place) (at us j) ≡ moveUp (line (at ts i)) (at ts i .place) (at ts j) = λ j q.
       rw (edit-other ts i j f q, self, l, z) in
-      let long : (m : Line) → lineLength m (changed i g us) ≡ lineLength m (changed i k ts) = λ m.
-      count-ext (inLine m) (changed i k ts) (changed i g us) (length-changed i g us ∙ length-edit ts i f ∙ sym (length-changed i k ts)) (λ j. elim (ℕ-discrete j i) [
-        | yes q ↦ rw (q, changed-self i g us h', changed-self i k ts h, self) (ap (λ n. same n m) new)
-        | no q ↦ ap (inLine m) (changed-other i j g us q ∙ others j q ∙ sym (changed-other i j k ts q))
-      ]) in
-      ext-getD free (move i g us) (move i k ts) (length-move i g us ∙ length-edit ts i f ∙ sym (length-move i k ts)) (λ j r. elim (ℕ-discrete j i) [
-        | yes q ↦ rw (q, move-self i g us h', move-self i k ts h, self, new, long (line (k (withPlace 0 (at ts i))))) (full (lineLength (line (k (withPlace 0 (at ts i)))) (changed i k ts)))
+      let long = as-long i us ts g k h e (rw self new) (λ j q. changed-other i j g us q ∙ others j q ∙ sym (changed-other i j k ts q)) in
+      ext-getD free (move i g us) (move i k ts) (length-move i g us ∙ e ∙ sym (length-move i k ts)) (λ j r. elim (ℕ-discrete j i) [
+        | yes q ↦ rw (q, move-self i g us (rw e h), move-self i k ts h, self, new, long (line (k (withPlace 0 (at ts i))))) (full (lineLength (line (k (withPlace 0 (at ts i)))) (changed i k ts)))
         | no q ↦ move-other i j g us q ∙ others j q ∙ sym (move-other i j k ts q)
       ])
 
@@ -102,14 +108,9 @@ module _ (i : ℕ) (ts : List Thread) (h : i < length ts) where
       → edit i f (move i g ts) ≡ move i k ts
   edit-moved f g k new full =
       let us = move i g ts in
-      let h' : i < length us = rw (length-move i g ts) h in
-      let long : (m : Line) → lineLength m (changed i g ts) ≡ lineLength m (changed i k ts) = λ m.
-      count-ext (inLine m) (changed i k ts) (changed i g ts) (length-changed i g ts ∙ sym (length-changed i k ts)) (λ j. elim (ℕ-discrete j i) [
-        | yes q ↦ rw (q, changed-self i g ts h, changed-self i k ts h) (ap (λ n. same n m) new)
-        | no q ↦ ap (inLine m) (changed-other i j g ts q ∙ sym (changed-other i j k ts q))
-      ]) in
+      let long = as-long i ts ts g k h refl new (λ j q. changed-other i j g ts q ∙ sym (changed-other i j k ts q)) in
       ext-getD free (edit i f us) (move i k ts) (length-edit us i f ∙ length-move i g ts ∙ sym (length-move i k ts)) (λ j r. elim (ℕ-discrete j i) [
-        | yes q ↦ rw (q, edit-same us i f h', move-self i g ts h, move-self i k ts h, new, long (line (k (withPlace 0 (at ts i))))) (full (lineLength (line (k (withPlace 0 (at ts i)))) (changed i k ts)))
+        | yes q ↦ rw (q, edit-same us i f (rw (length-move i g ts) h), move-self i g ts h, move-self i k ts h, new, long (line (k (withPlace 0 (at ts i))))) (full (lineLength (line (k (withPlace 0 (at ts i)))) (changed i k ts)))
         | no q ↦ edit-other us i j f q ∙ move-other i j g ts q ∙ sym (move-other i j k ts q)
       ])
 

@@ -3,7 +3,7 @@
 use mathlib.Core.Bool.{Bool, true, false, or-true, or-false}
 use mathlib.Core.Path.{_≡_, refl, sym, ap, _∙_}
 use mathlib.Core.List.{List, [], _∷_, map}
-use mathlib.Core.Option.{Option, none, some}
+use mathlib.Core.Option.{Option, none, some, Option·none-ne-some}
 use Prim.Native.Nat.{ℕ, zero, suc, _+_, _≤_, _<_}
 use native.Mathlib.Decide.{ℕ-discrete}
 use native.Mathlib.Omega.{arith}
@@ -31,6 +31,7 @@ marks u = u .object ∷ u .priority ∷ false ∷ u .number ∷ u .number ∷ u 
 abbrev bytes : List ℕ → List Bool
 bytes ks = has ks 1 ∷ has ks 2 ∷ has ks 3 ∷ has ks 4 ∷ has ks 5 ∷ has ks 6 ∷ has ks 7 ∷ has ks 8 ∷ has ks 9 ∷ has ks 10 ∷ has ks 11 ∷ []
 
+-- a number without an operation uses none
 marked : Option Operation → List Bool
 marked none = bytes []
 marked (some u) = marks u
@@ -60,19 +61,16 @@ unfolding holes
 hole-at [] i j k e h n = absurd (omega arith)
 hole-at (none ∷ us) i zero k e h n = rw (eq-eqb k i (omega arith))
 hole-at (none ∷ us) i (suc j) k e h n = rw (hole-at us (suc i) j k (omega arith) (omega arith) n) (or-true (eqb k i))
-hole-at (some u ∷ us) i zero k e h n = let z : _≡_ {A = ℕ} 0 1 = cc in absurd (omega arith)
+hole-at (some u ∷ us) i zero k e h n = absurd (Option·none-ne-some u (sym n))
 hole-at (some u ∷ us) i (suc j) k e h n = hole-at us (suc i) j k (omega arith) (omega arith) n
 
 only-3 : holes 0 operations ≡ 3 ∷ []
 unfolding holes
 only-3 = refl
 
--- a number has none exactly if it is 3 or above 24
+-- of the numbers up to 24 only 3 has none
 none-of : (k : ℕ) → operationOf k ≡ none → k ≤ 24 → k ≡ 3
 none-of k n h = eqb-true k 3 (sym (or-false (eqb k 3)) ∙ rw only-3 at (hole-at operations 0 k k (omega arith) (omega arith) n))
-
-not-some : {A : Type 0} (x : A) → none ≡ some x → ⊥
-not-some x e = let z : _≡_ {A = ℕ} 0 1 = cc in omega arith
 
 -- FIELDS
 
@@ -122,8 +120,8 @@ module _ (r : List ℕ) where
 
     well : Malformed r → ⊥
     well (notTwelve h) = h (x .long)
-    well (gone h) = not-some (x .fields .by) (rw h at (x .fields .there))
-    well (unknown h) = not-some (x .fields .by) (sym (List·getD-eq-default operations none {n = getD r 0 0} (omega arith)) ∙ x .fields .there)
+    well (gone h) = Option·none-ne-some (x .fields .by) (rw h at (x .fields .there))
+    well (unknown h) = Option·none-ne-some (x .fields .by) (sym (List·getD-eq-default operations none {n = getD r 0 0} (omega arith)) ∙ x .fields .there)
     well (third h) = h (x .zeroed)
     well (unused k low e h) = h (zeros k low e)
 
