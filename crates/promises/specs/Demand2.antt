@@ -1,5 +1,5 @@
 -- DEMAND 2. "For every request, interrupt and tick, the answer, the next table and the running thread are those of the RMP manual's
--- rules as document 01 completes them."
+-- rules as document 01 completes them." Order 8: "Demand 2 reads [operations 23 and 24] in the place of 001's Set".
 -- The rules are the definitions of crate `rules`; the kernel's code is proved to give what they say. Here is what they then keep true.
 use mathlib.Core.Bool.{true}
 use mathlib.Core.Path.{_≡_}

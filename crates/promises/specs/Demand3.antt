@@ -4,7 +4,7 @@
 -- threads' turns, each thread was charged exactly its own turn. An accepted tick is charged to the thread that was running, to nobody
 -- while the lock is on; a refused one to nobody."
 -- Order 7: "Demand 3 counts an accepted operation 21 as its single ticks: its premise is read after each, and a part may begin or end between
--- them."
+-- them." Order 8: "demand 3's premise names 23 and 24", which are the two changes of settings.
 -- The crate `fairness` says what the set, a turn and a charged tick are, of any run (specs/Run.antt), and which runs are meant
 -- (specs/Doors.antt).
 use mathlib.Core.Bool.{true}
