@@ -9,13 +9,14 @@ use native.Mathlib.Omega.{arith}
 use lib.ListN.{length}
 use lib.Seq.{ext-getD}
 use Rattle.rules.specs.Basic.{bit, count}
-use Rattle.rules.specs.Board.{Board}
+use Rattle.rules.specs.Board.{printer, tableLength}
 use Rattle.rules.specs.State.{State}
 use Rattle.rules.specs.Table.{decode}
 use Rattle.rules.specs.Sound.{Sound}
 use Rattle.rules.specs.Time.{doTick}
 use Rattle.rules.specs.Sleep.{ticks}
 use Rattle.layout.specs.Held.{Holds, Becomes}
+use Rattle.layout.proofs.Boards.{said-printer}
 use Rattle.fairness.specs.Run.{chargedTo}
 use Rattle.leaps.specs.Ticks.{leap}
 use Rattle.leaps.specs.Charges.{tickEvent, tickEvents, share, chargesOf}
@@ -93,7 +94,9 @@ by-leaps m n s ns σ h =
 
 -- ON A TABLE, which after the leap says what each thread's share of it is
 
-module _ {b : Board} {t t′ : List ℕ} {ran lock far rounds : ℕ} (n : ℕ) (s : State) (h : Holds b t s) (runs : ran ≡ s .running) (locks : lock ≡ s .lock)
-    (told : (far ≡ leap n s .far) × (rounds ≡ leap n s .rounds)) (c : Becomes b t t′ (λ s. leap n s .state)) where
-  pub share-told : (i : ℕ) → share (decode b t′ .threads) ran lock far rounds i ≡ chargesOf s (leap n s) i
-  share-told i = (λ j. share (c .holds s h .says j .threads) (runs j) (locks j) (told .0 j) (told .1 j) i) ∙ share-after s i n
+module _ {t t′ : List ℕ} {ran lock far rounds : ℕ} (n : ℕ) (s : State) (h : Holds t s) (runs : ran ≡ s .running) (locks : lock ≡ s .lock)
+    (told : (far ≡ leap n s .far) × (rounds ≡ leap n s .rounds)) (c : Becomes t t′ (λ s. leap n s .state)) (long : length t′ ≡ tableLength printer) where
+  pub share-told : (i : ℕ) → share (decode printer t′ .threads) ran lock far rounds i ≡ chargesOf s (leap n s) i
+  share-told i =
+      let says = sym (said-printer t′ long) ∙ c .holds s h .says in
+      (λ j. share (says j .threads) (runs j) (locks j) (told .0 j) (told .1 j) i) ∙ share-after s i n

@@ -57,11 +57,11 @@ fn credit(accounts: &mut [u64], t: &[u8], ran: usize, lock: u8, far: u32, rounds
 
 // Some of `n` ticks are done at once and entered. How many is given back.
 fn enter_leap(accounts: &mut [u64], t: &mut [u8], n: u32) -> u32
-    requires { ⌜ Serves printer (now t) × (1 ≤ n) ⌝ }
+    requires { ⌜ (length (now t) ≡ tableLength printer) × Serves (now t) × (1 ≤ n) ⌝ }
     requires { ⌜ (length (now accounts) ≡ printer .threads) × Fits (λ i. n) (now accounts) ⌝ }
-    ensures far { λ r. ⌜ ((s : State) → Holds printer (now (t .entry)) s → r ≡ leap n s .far) ⌝ }
-    ensures table { λ _. ⌜ Becomes printer (now (t .entry)) (now (t .exit)) (λ s. leap n s .state) ⌝ }
-    ensures accounts { λ _. ⌜ ((s : State) → Holds printer (now (t .entry)) s → now (accounts .exit) ≡ credited s (leap n s) (now (accounts .entry))) ⌝ }
+    ensures far { λ r. ⌜ ((s : State) → Holds (now (t .entry)) s → r ≡ leap n s .far) ⌝ }
+    ensures table { λ _. ⌜ Becomes (now (t .entry)) (now (t .exit)) (λ s. leap n s .state) ⌝ }
+    ensures accounts { λ _. ⌜ ((s : State) → Holds (now (t .entry)) s → now (accounts .exit) ≡ credited s (leap n s) (now (accounts .entry))) ⌝ }
 {
     let ran = records::running(t);
     let lock = records::lock(t);
@@ -72,7 +72,7 @@ fn enter_leap(accounts: &mut [u64], t: &mut [u8], n: u32) -> u32
 
 // `n` ticks are done and entered.
 pub fn enter_ticks(accounts: &mut [u64], t: &mut [u8], n: u32)
-    requires { ⌜ Serves printer (now t) ⌝ }
+    requires { ⌜ (length (now t) ≡ tableLength printer) × Serves (now t) ⌝ }
     requires { ⌜ (length (now accounts) ≡ printer .threads) × Fits (λ i. n) (now accounts) ⌝ }
     ensures { λ _. ⌜ now (accounts .exit) ≡ accountsFrom 0 (now (accounts .entry)) (tickEvents n (decode printer (now (t .entry)))) ⌝ }
 {

@@ -2,7 +2,7 @@
 // once are entered by the leaps that they are, and a creation begins the thread's account anew. `specs/Accounts.antt` says what some records make of
 // the accounts.
 ghost use mathlib.Core.Path.{_≡_};
-ghost use Prim.Native.Nat.{_+_, _-_, _*_, _≤_, _<_};
+ghost use Prim.Native.Nat.{_+_, _-_, _*_, _≤_};
 ghost use lib.ListN.{length, take, drop};
 ghost use lib.Seq.{sets};
 ghost use Rattle.rules.specs.Board.{printer, tableLength};
@@ -59,6 +59,7 @@ fn at_once(decoded: Decoded) -> u32
 
 // The record that starts at `at` is served. Whether it is accepted is given back.
 fn serve_one(table: &mut [u8], input: &[u8], at: usize) -> bool
+    requires { ⌜ length (now table) ≡ tableLength printer ⌝ }
     requires { ⌜ at + requestLength ≤ length (now input) ⌝ }
     ensures accepted { λ r. ⌜ r ≡ isZero (door printer (now (table .entry)) (take requestLength (drop at (now (input .entry)))) cleanArea .code) ⌝ }
     ensures table { λ _. ⌜ now (table .exit) ≡ door printer (now (table .entry)) (take requestLength (drop at (now (input .entry)))) cleanArea .table ⌝ }

@@ -4,13 +4,13 @@ ghost use mathlib.Core.Bool.{true};
 ghost use mathlib.Core.Logic.{_↔_};
 ghost use Prim.Native.Nat.{ℕ, _+_, _*_, _≤_, _<_};
 ghost use lib.ListN.{length, getD};
-ghost use Rattle.rules.specs.Board.{printer, recordLength, tableLength};
+ghost use Rattle.rules.specs.Board.{recordLength};
 ghost use Rattle.layout.specs.Bytes.{semsFrom, kernelFrom};
+ghost use Rattle.layout.specs.Boards.{HasThread, HasSem};
 ghost use Rattle.layout.specs.Canon.{waitCanon, outcomeCanon, headCanon, threadCanon, restZero, semCanon};
+ghost use Rattle.layout.specs.Held.{board, Long};
 ghost use Rattle.canon.specs.Zero.{recordZero};
-use rules::KERNEL_FROM;
 use rules::RECORD;
-use rules::SEMAPHORES_FROM;
 use rules::field;
 
 // ZEROS: bytes are tested eight at a time
@@ -29,7 +29,7 @@ fn zero_behind(t: &[u8], base: usize, first: u64) -> bool
 
 // Is every byte of thread `i`'s record 0?
 pub fn thread_zero(t: &[u8], i: usize) -> bool
-    requires { ⌜ (i < printer .threads) × (length (now t) ≡ tableLength printer) ⌝ }
+    requires { ⌜ HasThread (now t) i × Long (now t) ⌝ }
     ensures { λ r. ⌜ r ≡ recordZero (now (t .entry)) (i * recordLength) ⌝ }
 {
     let base = i * RECORD;
@@ -78,7 +78,7 @@ fn head_canon(used: u8, suspended: u8, kind: u8, object: u8, full: u8, outcome: 
 
 // Thread `i`'s record.
 pub fn thread_canon(t: &[u8], i: usize) -> bool
-    requires { ⌜ (i < printer .threads) × (length (now t) ≡ tableLength printer) ⌝ }
+    requires { ⌜ HasThread (now t) i × Long (now t) ⌝ }
     ensures { λ r. ⌜ r ≡ threadCanon (now (t .entry)) (i * recordLength) ⌝ }
 {
     let base = i * RECORD;
@@ -94,10 +94,10 @@ pub fn thread_canon(t: &[u8], i: usize) -> bool
 
 // Semaphore `k`'s record.
 pub fn sem_canon(t: &[u8], k: usize) -> bool
-    requires { ⌜ (k < printer .sems) × (length (now t) ≡ tableLength printer) ⌝ }
-    ensures { λ r. ⌜ r ≡ semCanon (now (t .entry)) (semsFrom printer + k * recordLength) ⌝ }
+    requires { ⌜ HasSem (now t) k × Long (now t) ⌝ }
+    ensures { λ r. ⌜ r ≡ semCanon (now (t .entry)) (semsFrom (board (now (t .entry))) + k * recordLength) ⌝ }
 {
-    let base = SEMAPHORES_FROM + k * RECORD;
+    let base = boards::semaphore_from(t, k);
     if t[base + field::USED] > 1 {
         return false;
     }
@@ -106,12 +106,9 @@ pub fn sem_canon(t: &[u8], k: usize) -> bool
 
 // The kernel's record: every byte 0 past the ready word, which ends with the sixth.
 pub fn kernel_canon(t: &[u8]) -> bool
-    requires { ⌜ length (now t) ≡ tableLength printer ⌝ }
-    ensures { λ r. ⌜ r ≡ restZero 6 (now (t .entry)) (kernelFrom printer) ⌝ }
+    requires { ⌜ Long (now t) ⌝ }
+    ensures { λ r. ⌜ r ≡ restZero 6 (now (t .entry)) (kernelFrom (board (now (t .entry)))) ⌝ }
 {
-    zero_behind(
-        t,
-        KERNEL_FROM,
-        words::long_at(t, KERNEL_FROM) / 281474976710656,
-    )
+    let base = boards::kernel_from(t);
+    zero_behind(t, base, words::long_at(t, base) / 281474976710656)
 }

@@ -8,6 +8,7 @@ ghost use Rattle.rules.specs.Answers.{areaLength};
 ghost use Rattle.rules.specs.Test.{soundTable};
 ghost use Rattle.rules.specs.Steps.{step};
 ghost use Rattle.rules.specs.Door.{door};
+ghost use Rattle.layout.specs.Held.{board};
 ghost use Rattle.waiting.specs.Does.{Serves, Does};
 use rules::AREA;
 use rules::Answer;
@@ -17,8 +18,8 @@ use rules::refused;
 
 // A step: each request by its own operation.
 fn step(t: &mut [u8], request: Request) -> Answer
-    requires { ⌜ Serves printer (now t) ⌝ }
-    ensures { λ r. ⌜ Does printer (now (t .entry)) (now (t .exit)) r (λ s. step s request) ⌝ }
+    requires { ⌜ Serves (now t) ⌝ }
+    ensures { λ r. ⌜ Does (now (t .entry)) (now (t .exit)) r (λ s. step s request) ⌝ }
 {
     match request {
         Request::Yield => threads::yield_turn(t),
@@ -66,7 +67,7 @@ fn step(t: &mut [u8], request: Request) -> Answer
 
 // Can a call be served? −7 is given where it cannot: "table unsound, or answer area not 8 bytes".
 fn can_serve(table: &[u8], answer: &[u8]) -> bool
-    ensures { λ r. ⌜ r ≡ (eqb (length (now (answer .entry))) areaLength && soundTable printer (now (table .entry))) ⌝ }
+    ensures { λ r. ⌜ r ≡ (eqb (length (now (answer .entry))) areaLength && soundTable (board (now (table .entry))) (now (table .entry))) ⌝ }
 {
     if answer.len() != AREA {
         return false;

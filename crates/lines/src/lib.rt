@@ -6,15 +6,13 @@ ghost use mathlib.Core.Path.{_≡_};
 ghost use Prim.Native.Nat.{ℕ, _*_, _^_, _≤_, _<_};
 ghost use mathlib.Core.List.{map};
 ghost use Rattle.rules.specs.Basic.{if_then_else_};
-ghost use Rattle.rules.specs.Board.{printer};
 ghost use Rattle.rules.specs.State.{State, at, isReady, edit, withPlace};
 ghost use Rattle.rules.specs.Lines.{Line, ready, inLine, lineLength, first, moveUp, leave, filled, tailPlace, join, move};
-ghost use Rattle.rules.specs.Table.{decode};
-ghost use Rattle.layout.specs.Held.{Holds, Whole, Becomes, onThreads};
+ghost use Rattle.layout.specs.Boards.{HasThread};
+ghost use Rattle.layout.specs.Held.{said, Holds, Whole, Becomes, onThreads};
 ghost use Rattle.marks.specs.Numbers.{lineNumber};
 ghost use Rattle.marks.specs.Marks.{markOf};
 use marks::Mark;
-use rules::THREADS;
 use rules::Thread;
 
 // "A thread is ready when in use, not suspended, not waiting."
@@ -59,12 +57,13 @@ fn exponent(power: u64) -> u8
 
 // How many threads stand in the line.
 pub fn line_length(t: &[u8], line: u16) -> u8
-    requires { ⌜ Whole printer (now t) ⌝ }
-    ensures { λ r. ⌜ ((s : State) (l : Line) → decode printer (now (t .entry)) ≡ s → line ≡ lineNumber l → r ≡ lineLength l (s .threads)) ⌝ }
+    requires { ⌜ Whole (now t) ⌝ }
+    ensures { λ r. ⌜ ((s : State) (l : Line) → said (now (t .entry)) ≡ s → line ≡ lineNumber l → r ≡ lineLength l (s .threads)) ⌝ }
 {
     let m = marks::mark_of(line);
     let mut power: u64 = 1;
-    for j in 0..THREADS {
+    let threads = boards::threads(&t[..]);
+    for j in 0..threads {
         power = counted(power, marks::has_mark(&t[..], j, m));
     }
     exponent(power)
@@ -74,27 +73,28 @@ pub fn line_length(t: &[u8], line: u16) -> u8
 
 // Which thread is the line's first; where it has none, the number of threads.
 pub fn first_of(t: &[u8], line: u16) -> usize
-    requires { ⌜ Whole printer (now t) ⌝ }
-    ensures { λ r. ⌜ (r ≤ printer .threads) × ((s : State) (l : Line) → decode printer (now (t .entry)) ≡ s → line ≡ lineNumber l → r ≡ first l (s .threads)) ⌝ }
+    requires { ⌜ Whole (now t) ⌝ }
+    ensures { λ r. ⌜ ((s : State) (l : Line) → said (now (t .entry)) ≡ s → line ≡ lineNumber l → r ≡ first l (s .threads)) ⌝ }
 {
     let m = marks::first_mark(line);
-    for j in 0..THREADS {
+    let threads = boards::threads(&t[..]);
+    for j in 0..threads {
         if marks::has_mark(&t[..], j, m) {
             return j;
         }
     }
-    THREADS
+    threads
 }
 
 // A THREAD LEAVES ITS LINE
 
 // Thread `j` moves up if it stands behind that place of the line whose mark is given. If it stands there at all, the power is doubled.
 fn move_up(t: &mut [u8], j: usize, m: Mark, place: u8, power: u64) -> u64
-    requires { ⌜ (j < printer .threads) × Whole printer (now t) × (power < 2 ^ 63) ⌝ }
+    requires { ⌜ HasThread (now t) j × Whole (now t) × (power < 2 ^ 63) ⌝ }
     ensures bounds { λ r. ⌜ (power ≤ r) × (r ≤ 2 * power) ⌝ }
-    ensures whole { λ _. ⌜ Whole printer (now (t .exit)) ⌝ }
-    ensures count { λ r. ⌜ ((s : State) (l : Line) → Holds printer (now (t .entry)) s → m ≡ markOf l → r ≡ (if inLine l (at (s .threads) j) then 2 * power else power)) ⌝ }
-    ensures table { λ _. ⌜ ((l : Line) → m ≡ markOf l → Becomes printer (now (t .entry)) (now (t .exit)) (onThreads (edit j (moveUp l place)))) ⌝ }
+    ensures whole { λ _. ⌜ Whole (now (t .exit)) ⌝ }
+    ensures count { λ r. ⌜ ((s : State) (l : Line) → Holds (now (t .entry)) s → m ≡ markOf l → r ≡ (if inLine l (at (s .threads) j) then 2 * power else power)) ⌝ }
+    ensures table { λ _. ⌜ ((l : Line) → m ≡ markOf l → Becomes (now (t .entry)) (now (t .exit)) (onThreads (edit j (moveUp l place)))) ⌝ }
 {
     if !marks::has_mark(t, j, m) {
         return power;
@@ -110,13 +110,14 @@ fn move_up(t: &mut [u8], j: usize, m: Mark, place: u8, power: u64) -> u64
 
 // Whoever stands behind that place of the line moves up. How many stand in the line is given back.
 fn close_gap(t: &mut [u8], line: u16, place: u8) -> u8
-    requires { ⌜ Whole printer (now t) ⌝ }
-    ensures count { λ r. ⌜ ((s : State) (l : Line) → Holds printer (now (t .entry)) s → line ≡ lineNumber l → r ≡ lineLength l (s .threads)) ⌝ }
-    ensures table { λ _. ⌜ ((l : Line) → line ≡ lineNumber l → Becomes printer (now (t .entry)) (now (t .exit)) (onThreads (map (moveUp l place)))) ⌝ }
+    requires { ⌜ Whole (now t) ⌝ }
+    ensures count { λ r. ⌜ ((s : State) (l : Line) → Holds (now (t .entry)) s → line ≡ lineNumber l → r ≡ lineLength l (s .threads)) ⌝ }
+    ensures table { λ _. ⌜ ((l : Line) → line ≡ lineNumber l → Becomes (now (t .entry)) (now (t .exit)) (onThreads (map (moveUp l place)))) ⌝ }
 {
     let m = marks::mark_of(line);
     let mut power: u64 = 1;
-    for j in 0..THREADS {
+    let threads = boards::threads(t);
+    for j in 0..threads {
         power = move_up(t, j, m, place, power);
     }
     exponent(power)
@@ -124,9 +125,9 @@ fn close_gap(t: &mut [u8], line: u16, place: u8) -> u8
 
 // Thread `i` leaves its line, and whoever stands behind it moves up. How many stood in the line is given back; 0 where it is none.
 pub fn leave(t: &mut [u8], i: usize) -> u8
-    requires { ⌜ (i < printer .threads) × Whole printer (now t) ⌝ }
-    ensures count { λ r. ⌜ ((s : State) → decode printer (now (t .entry)) ≡ s → r ≡ tailPlace i (s .threads)) ⌝ }
-    ensures table { λ _. ⌜ Becomes printer (now (t .entry)) (now (t .exit)) (onThreads (leave i)) ⌝ }
+    requires { ⌜ HasThread (now t) i × Whole (now t) ⌝ }
+    ensures count { λ r. ⌜ ((s : State) → said (now (t .entry)) ≡ s → r ≡ tailPlace i (s .threads)) ⌝ }
+    ensures table { λ _. ⌜ Becomes (now (t .entry)) (now (t .exit)) (onThreads (leave i)) ⌝ }
 {
     let th = records::load_thread(t, i);
     let line = marks::line_of(th);
@@ -139,8 +140,8 @@ pub fn leave(t: &mut [u8], i: usize) -> u8
 
 // Thread `i` takes a full counter if it is ready.
 pub fn fill(t: &mut [u8], i: usize)
-    requires { ⌜ (i < printer .threads) × Whole printer (now t) ⌝ }
-    ensures { λ _. ⌜ Becomes printer (now (t .entry)) (now (t .exit)) (onThreads (edit i filled)) ⌝ }
+    requires { ⌜ HasThread (now t) i × Whole (now t) ⌝ }
+    ensures { λ _. ⌜ Becomes (now (t .entry)) (now (t .exit)) (onThreads (edit i filled)) ⌝ }
 {
     let th = records::load_thread(t, i);
     if is_ready(th) {
@@ -150,8 +151,8 @@ pub fn fill(t: &mut [u8], i: usize)
 
 // Thread `i` takes that place of its line, with a full counter if it is ready.
 fn stand_at(t: &mut [u8], i: usize, place: u8)
-    requires { ⌜ (i < printer .threads) × Whole printer (now t) ⌝ }
-    ensures { λ _. ⌜ Becomes printer (now (t .entry)) (now (t .exit)) (onThreads (edit i (λ x. filled (withPlace place x)))) ⌝ }
+    requires { ⌜ HasThread (now t) i × Whole (now t) ⌝ }
+    ensures { λ _. ⌜ Becomes (now (t .entry)) (now (t .exit)) (onThreads (edit i (λ x. filled (withPlace place x)))) ⌝ }
 {
     records::set_place(t, i, place);
     fill(t, i);
@@ -159,9 +160,9 @@ fn stand_at(t: &mut [u8], i: usize, place: u8)
 
 // Thread `i`, which has no place, joins the tail of the line that its record names. The place that it takes is given back.
 pub fn join(t: &mut [u8], i: usize) -> u8
-    requires { ⌜ (i < printer .threads) × Whole printer (now t) ⌝ }
-    ensures place { λ r. ⌜ ((s : State) → decode printer (now (t .entry)) ≡ s → r ≡ tailPlace i (s .threads)) ⌝ }
-    ensures table { λ _. ⌜ Becomes printer (now (t .entry)) (now (t .exit)) (onThreads (join i)) ⌝ }
+    requires { ⌜ HasThread (now t) i × Whole (now t) ⌝ }
+    ensures place { λ r. ⌜ ((s : State) → said (now (t .entry)) ≡ s → r ≡ tailPlace i (s .threads)) ⌝ }
+    ensures table { λ _. ⌜ Becomes (now (t .entry)) (now (t .exit)) (onThreads (join i)) ⌝ }
 {
     let th = records::load_thread(t, i);
     let place = line_length(t, marks::line_of(th));
@@ -171,8 +172,8 @@ pub fn join(t: &mut [u8], i: usize) -> u8
 
 // Thread `i` goes to the tail of its line with a full counter.
 pub fn to_tail(t: &mut [u8], i: usize)
-    requires { ⌜ (i < printer .threads) × Whole printer (now t) ⌝ }
-    ensures { λ _. ⌜ Becomes printer (now (t .entry)) (now (t .exit)) (onThreads (move i (λ x. x))) ⌝ }
+    requires { ⌜ HasThread (now t) i × Whole (now t) ⌝ }
+    ensures { λ _. ⌜ Becomes (now (t .entry)) (now (t .exit)) (onThreads (move i (λ x. x))) ⌝ }
 {
     let last = leave(t, i);
     stand_at(t, i, last);

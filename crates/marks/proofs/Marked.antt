@@ -11,7 +11,7 @@ use lib.Bits.{bitAnd, and-block, and-mask, and-zero-r, and-le-l}
 use lib.Dec.{eqb, leb}
 use lib.ListN.{getD}
 use Rattle.rules.specs.Basic.{if_then_else_, bit}
-use Rattle.rules.specs.Board.{Board, recordLength}
+use Rattle.rules.specs.Board.{recordLength}
 use Rattle.rules.specs.State.{State, at}
 use Rattle.rules.specs.Lines.{Line, nowhere, ready, waiters, senders, same, waitLine, line, inLine, isFirst, readyWord}
 use Rattle.rules.specs.Table.{kindOf, objectOf, outcomeByte, threadRow, encode}
@@ -20,9 +20,11 @@ use Rattle.rules.specs.declared.Wait.{Wait}
 use Rattle.rules.specs.declared.Wait.the-variants.{Nothing, Delay, Receive, Send, Semaphore}
 use Rattle.laws.proofs.Split.{is, isnt, test}
 use Rattle.laws.proofs.Lines.{same-nowhere}
+use Rattle.layout.specs.Boards.{HasThread}
 use Rattle.layout.specs.Held.{Holds}
 use Rattle.layout.proofs.Records.{thread-byte}
-use Rattle.layout.proofs.Held.{holds-on}
+use Rattle.layout.proofs.Boards.{has-thread}
+use Rattle.layout.proofs.Held.{holds-on, holds-whole}
 use Rattle.words.specs.Long.{longAt}
 use Rattle.marks.specs.Numbers.{lineNumber}
 use Rattle.marks.specs.Marks.{standing, headOf, nobody, kindMark, markOf, firstMark}
@@ -223,10 +225,10 @@ known-low n m known =
 -- THE RECORD
 
 -- a record's first eight bytes are what the thread that it says has there
-module _ {b : Board} {t : List ℕ} {s : State} (holds : Holds b t s) (byte : (k : ℕ) → getD t k 0 < 256) (i : ℕ) (inside : i < b .threads) where
+module _ {t : List ℕ} {s : State} (holds : Holds t s) (byte : (k : ℕ) → getD t k 0 < 256) (i : ℕ) (inside : HasThread t i) where
   field : (k : ℕ) → k < recordLength → getD t (i * recordLength + k) 0 ≡ getD (threadRow (at (s .threads) i)) k 0
   unfolding encode
-  field k h = ap (λ l. getD l (i * recordLength + k) 0) (holds .bytes) ∙ thread-byte (holds-on holds) (readyWord (s .threads)) i k inside h
+  field k h = ap (λ l. getD l (i * recordLength + k) 0) (holds .bytes) ∙ thread-byte (holds-on holds) (readyWord (s .threads)) i k (has-thread (holds-whole holds .long) i .0 inside) h
 
   pub small : Small (at (s .threads) i)
   unfolding threadRow

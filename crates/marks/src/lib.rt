@@ -4,11 +4,11 @@ ghost use mathlib.Core.Path.{_≡_};
 ghost use Prim.Native.Nat.{_*_, _<_};
 ghost use lib.Bits.{bitAnd};
 ghost use lib.Dec.{eqb};
-ghost use lib.ListN.{length};
-ghost use Rattle.rules.specs.Board.{printer, recordLength, tableLength};
+ghost use Rattle.rules.specs.Board.{recordLength};
 ghost use Rattle.rules.specs.State.{State, at};
 ghost use Rattle.rules.specs.Lines.{Line, ready, waiters, senders, waitLine, line, inLine, isFirst};
-ghost use Rattle.layout.specs.Held.{Holds};
+ghost use Rattle.layout.specs.Boards.{HasThread};
+ghost use Rattle.layout.specs.Held.{Long, Holds};
 ghost use Rattle.words.specs.Long.{longAt};
 ghost use Rattle.marks.specs.Numbers.{lineNumber};
 ghost use Rattle.marks.specs.Marks.{kindMark, markOf, firstMark};
@@ -131,10 +131,10 @@ pub fn first_mark(line: u16) -> Mark
 
 // Does thread `j`'s record have the mark?
 pub fn has_mark(t: &[u8], j: usize, m: Mark) -> bool
-    requires { ⌜ (j < printer .threads) × (length (now t) ≡ tableLength printer) ⌝ }
+    requires { ⌜ HasThread (now t) j × Long (now t) ⌝ }
     ensures bytes { λ r. ⌜ r ≡ eqb (bitAnd (longAt (now (t .entry)) (j * recordLength)) (m .mask)) (m .bytes) ⌝ }
-    ensures line { λ r. ⌜ ((s : State) (l : Line) → Holds printer (now (t .entry)) s → m ≡ markOf l → r ≡ inLine l (at (s .threads) j)) ⌝ }
-    ensures first { λ r. ⌜ ((s : State) (l : Line) → Holds printer (now (t .entry)) s → m ≡ firstMark l → r ≡ isFirst l (at (s .threads) j)) ⌝ }
+    ensures line { λ r. ⌜ ((s : State) (l : Line) → Holds (now (t .entry)) s → m ≡ markOf l → r ≡ inLine l (at (s .threads) j)) ⌝ }
+    ensures first { λ r. ⌜ ((s : State) (l : Line) → Holds (now (t .entry)) s → m ≡ firstMark l → r ≡ isFirst l (at (s .threads) j)) ⌝ }
 {
     records::head(t, j) & m.mask == m.bytes
 }

@@ -8,14 +8,12 @@ ghost use Prim.Native.Nat.{ℕ, _+_, _≤_, _<_};
 ghost use lib.Dec.{eqb};
 ghost use lib.ListN.{length};
 ghost use Rattle.rules.specs.Basic.{bit, allBelow};
-ghost use Rattle.rules.specs.Board.{printer};
-ghost use Rattle.places.specs.Rings.{half, ringLength, closed, entryIn, entryAt, countBelow, placed, Near};
-use rules::THREADS;
+ghost use Rattle.rules.specs.Board.{mostThreads};
+ghost use Rattle.places.specs.Rings.{Ring, closed, entryIn, entryAt, countBelow, placed, Near};
+use rules::MOST_THREADS;
 
-// The entries of a ring.
-pub const RING: usize = 2 * THREADS;
-
-const HALF: usize = THREADS / 2;
+// The entries that a ring has room for, on whatever board.
+pub const RING: usize = 2 * MOST_THREADS;
 
 // ONE THREAD
 
@@ -25,25 +23,25 @@ fn same(a: u8, b: u8) -> u8
     if a == b { 1 } else { 0 }
 }
 
-// How many threads stand in a line? All are asked, from entry `from` on.
-fn length_of(lines: &[u8], from: usize, line: u8) -> u8
-    requires { ⌜ (from ≤ printer .threads) × (length (now lines) ≡ ringLength) ⌝ }
-    ensures { λ r. ⌜ r ≡ countBelow (printer .threads) (λ k. entryIn (now (lines .entry)) line (from + k)) ⌝ }
+// How many threads stand in a line? All `n` are asked, from entry `from` on.
+fn length_of(lines: &[u8], n: usize, from: usize, line: u8) -> u8
+    requires { ⌜ (n ≤ mostThreads) × (from + n ≤ length (now lines)) ⌝ }
+    ensures { λ r. ⌜ r ≡ countBelow n (λ k. entryIn (now (lines .entry)) line (from + k)) ⌝ }
 {
-    let mut n: u8 = 0;
-    for k in from..from + THREADS {
-        n += same(lines[k], line);
+    let mut length: u8 = 0;
+    for k in from..from + n {
+        length += same(lines[k], line);
     }
-    n
+    length
 }
 
-// 0 if nobody has that place of the line, of half of the threads from entry `from` on.
-fn shared(lines: &[u8], places: &[u8], from: usize, line: u8, place: u8) -> u8
-    requires { ⌜ (from + half ≤ ringLength) × (length (now lines) ≡ ringLength) × (length (now places) ≡ ringLength) ⌝ }
-    ensures { λ r. ⌜ (r ≡ 0) ↔ ((k : ℕ) → k < half → entryAt (now (lines .entry)) (now (places .entry)) line place (from + k) ≡ false) ⌝ }
+// 0 if nobody has that place of the line, of `n` threads from entry `from` on.
+fn shared(lines: &[u8], places: &[u8], n: usize, from: usize, line: u8, place: u8) -> u8
+    requires { ⌜ (from + n ≤ length (now lines)) × (from + n ≤ length (now places)) ⌝ }
+    ensures { λ r. ⌜ (r ≡ 0) ↔ ((k : ℕ) → k < n → entryAt (now (lines .entry)) (now (places .entry)) line place (from + k) ≡ false) ⌝ }
 {
     let mut found: u8 = 0;
-    for k in from..from + HALF {
+    for k in from..from + n {
         found |= same(lines[k], line) & same(places[k], place);
     }
     found
@@ -65,50 +63,51 @@ fn misplaced(line: u8, place: u8, length: u8, shared: u8) -> u8
     if place > length { 1 } else { 0 }
 }
 
-// 0 if thread `j` is well placed. Of two threads that share a place one stands in the half of the ring before the other, so that each
-// need only ask the half before itself.
-fn misplaced_at(lines: &[u8], places: &[u8], j: usize) -> u8
-    requires { ⌜ (j < printer .threads) × (length (now lines) ≡ ringLength) × (length (now places) ≡ ringLength) ⌝ }
-    ensures { λ r. ⌜ (r ≡ 0) ↔ Near (now (lines .entry)) (now (places .entry)) j ⌝ }
+// 0 if thread `j` of `n` is well placed. Of two threads that share a place one stands in the half of the ring before the other, so that
+// each need only ask the half before itself.
+fn misplaced_at(lines: &[u8], places: &[u8], n: usize, j: usize) -> u8
+    requires { ⌜ (j < n) × Ring n (now lines) × Ring n (now places) ⌝ }
+    ensures { λ r. ⌜ (r ≡ 0) ↔ Near n (now (lines .entry)) (now (places .entry)) j ⌝ }
 {
-    let line = lines[j + THREADS];
-    let place = places[j + THREADS];
-    let taken = shared(lines, places, j + HALF, line, place);
-    let length = length_of(lines, j, line);
+    let half = n / 2;
+    let line = lines[j + n];
+    let place = places[j + n];
+    let taken = shared(lines, places, half, j + half, line, place);
+    let length = length_of(lines, n, j, line);
     misplaced(line, place, length, taken)
 }
 
 // ALL THREADS
 
-// The first half of a ring is noted once more behind it.
-fn close(ring: &mut [u8])
-    requires { ⌜ length (now ring) ≡ ringLength ⌝ }
-    ensures { λ _. ⌜ now (ring .exit) ≡ closed (now (ring .entry)) ⌝ }
+// What is noted of `n` threads is noted once more behind them.
+fn close(ring: &mut [u8], n: usize)
+    requires { ⌜ Ring n (now ring) ⌝ }
+    ensures { λ _. ⌜ now (ring .exit) ≡ closed n (now (ring .entry)) ⌝ }
 {
-    for i in 0..THREADS {
-        ring[THREADS + i] = ring[i];
+    for i in 0..n {
+        ring[n + i] = ring[i];
     }
 }
 
-fn none_misplaced(lines: &[u8], places: &[u8]) -> bool
-    requires { ⌜ (length (now lines) ≡ ringLength) × (length (now places) ≡ ringLength) ⌝ }
-    ensures { λ r. ⌜ (r ≡ true) ↔ ((j : ℕ) → j < printer .threads → Near (now (lines .entry)) (now (places .entry)) j) ⌝ }
+fn none_misplaced(lines: &[u8], places: &[u8], n: usize) -> bool
+    requires { ⌜ Ring n (now lines) × Ring n (now places) ⌝ }
+    ensures { λ r. ⌜ (r ≡ true) ↔ ((j : ℕ) → j < n → Near n (now (lines .entry)) (now (places .entry)) j) ⌝ }
 {
     let mut bad: u8 = 0;
-    for j in 0..THREADS {
-        bad |= misplaced_at(lines, places, j);
+    for j in 0..n {
+        bad |= misplaced_at(lines, places, n, j);
     }
     bad == 0
 }
 
-// Is every thread well placed?
-pub fn all_placed(lines: &mut [u8], places: &mut [u8]) -> bool
-    requires { ⌜ (length (now lines) ≡ ringLength) × (length (now places) ≡ ringLength) ⌝ }
-    ensures answer { λ r. ⌜ r ≡ allBelow (printer .threads) (placed (now (lines .entry)) (now (places .entry))) ⌝ }
-    ensures lines { λ _. ⌜ now (lines .exit) ≡ closed (now (lines .entry)) ⌝ }
-    ensures places { λ _. ⌜ now (places .exit) ≡ closed (now (places .entry)) ⌝ }
+// Is every one of `n` threads well placed?
+pub fn all_placed(lines: &mut [u8], places: &mut [u8], n: usize) -> bool
+    requires { ⌜ Ring n (now lines) × Ring n (now places) ⌝ }
+    ensures answer { λ r. ⌜ r ≡ allBelow n (placed n (now (lines .entry)) (now (places .entry))) ⌝ }
+    ensures lines { λ _. ⌜ now (lines .exit) ≡ closed n (now (lines .entry)) ⌝ }
+    ensures places { λ _. ⌜ now (places .exit) ≡ closed n (now (places .entry)) ⌝ }
 {
-    close(lines);
-    close(places);
-    none_misplaced(lines, places)
+    close(lines, n);
+    close(places, n);
+    none_misplaced(lines, places, n)
 }

@@ -15,19 +15,20 @@ use lib.Dec.{eqb, leb, ltb}
 use lib.ListN.{length, set, take, length-set}
 use lib.Seq.{getD-set-same, getD-set-other, set-getD}
 use Rattle.rules.specs.Basic.{if_then_else_, bit, count}
-use Rattle.rules.specs.Board.{printer, topPriority}
+use Rattle.rules.specs.Board.{topPriority}
 use Rattle.rules.specs.State.{State, free, at, isReady, edit}
 use Rattle.rules.specs.Lines.{ready, line, inLine, lineLength, leave, tailPlace, hasMember, bitsBelow, readyWord}
-use Rattle.rules.specs.Table.{decode}
 use Rattle.rules.specs.declared.Thread.{Thread}
 use Rattle.laws.proofs.Split.{is, isnt, test, clash, and-true, and-both}
 use Rattle.laws.proofs.Lines.{same-eq, in-ready}
 use Rattle.laws.proofs.Members.{edit-same, count-change}
 use Rattle.laws.proofs.Turns.{count-turn}
 use Rattle.laws.proofs.Word.{bits-ext, bits-set, bits-or}
-use Rattle.layout.specs.Held.{Holds, Whole, Becomes, Shows, Changes, onThreads}
-use Rattle.layout.proofs.Held.{said-on, whole-holds, becomes, holds-shows, shows-word}
+use Rattle.layout.specs.Held.{said, Holds, Whole, Becomes, Shows, Changes, onThreads}
+use Rattle.layout.specs.Boards.{HasThread}
+use Rattle.layout.proofs.Held.{whole-holds, becomes, holds-shows, shows-word}
 use Rattle.lines.proofs.Standing.{tail-left}
+use Rattle.layout.proofs.Boards.{sized}
 use Rattle.ready.specs.Word.{readyBit, lastBit, Mends}
 
 -- THE HIGHEST BIT
@@ -175,24 +176,24 @@ module _ (ts : List Thread) (i : ℕ) (h : i < length ts) where
 -- THE TABLE
 
 -- how many stood in the line that a thread has left, itself among them
-pub stood-there : {t t′ : List ℕ} (i : ℕ) → i < printer .threads → Whole printer t → Becomes printer t t′ (onThreads (leave i)) → {n : ℕ}
-    → ((s : State) → decode printer t ≡ s → n ≡ tailPlace i (s .threads)) → (s : State) → decode printer t′ ≡ s → tailPlace i (s .threads) ≡ n
+pub stood-there : {t t′ : List ℕ} (i : ℕ) → HasThread t i → Whole t → Becomes t t′ (onThreads (leave i)) → {n : ℕ}
+    → ((s : State) → said t ≡ s → n ≡ tailPlace i (s .threads)) → (s : State) → said t′ ≡ s → tailPlace i (s .threads) ≡ n
 stood-there {t} {t′} i inside w left stood s e =
-    let before = decode printer t in
+    let before = said t in
     ap (λ z. tailPlace i (z .threads)) (sym e ∙ left .holds before (whole-holds w) .says)
-    ∙ tail-left i (before .threads) (omega (arith, said-on printer t refl .threads)) ∙ sym (stood before refl)
+    ∙ tail-left i (before .threads) (omega (arith, sized (w .long) refl .threads)) ∙ sym (stood before refl)
 
 -- a table of which one record is changed has its word mended
-module _ {t t′ : List ℕ} (w : Whole printer t) (i : ℕ) (inside : i < printer .threads) (g : Thread → Thread) (changed : Changes printer t t′ (onThreads (edit i g)))
-    {left : ℕ} (last : (s : State) → decode printer t ≡ s → left ≡ lastBit i (s .threads)) where
+module _ {t t′ : List ℕ} (w : Whole t) (i : ℕ) (inside : HasThread t i) (g : Thread → Thread) (changed : Changes t t′ (onThreads (edit i g)))
+    {left : ℕ} (last : (s : State) → said t ≡ s → left ≡ lastBit i (s .threads)) where
   pub mends : Mends t′ i left
   mends =
-      let s = decode printer t in
+      let s = said t in
       let ts = s .threads in
       let shown = changed .shows s (readyWord ts) (holds-shows (whole-holds w)) in
       let word = shows-word shown in
       let e = last s refl in
-      let range : i < length ts = omega (arith, said-on printer t refl .threads) in
+      let range : i < length ts = omega (arith, sized (w .long) refl .threads) in
       record {
         enough = omega (arith, word, e, last-enough ts i range);
         right = (λ j. bitOr (word j - e j) (readyBit (at (shown .says j .threads) i)))
@@ -200,5 +201,5 @@ module _ {t t′ : List ℕ} (w : Whole printer t) (i : ℕ) (inside : i < print
             ∙ word-moves ts i range (g (at ts i)) ∙ ap (λ z. readyWord (z .threads)) (sym (shown .says));
       }
 
-  pub mended : {t″ : List ℕ} → ((s : State) (v : ℕ) → Shows printer t′ s v → Holds printer t″ s) → Becomes printer t t″ (onThreads (edit i g))
+  pub mended : {t″ : List ℕ} → ((s : State) (v : ℕ) → Shows t′ s v → Holds t″ s) → Becomes t t″ (onThreads (edit i g))
   mended f = becomes w (λ s h. f _ _ (changed .shows s (readyWord (s .threads)) (holds-shows h)))

@@ -3,17 +3,15 @@
 //
 // A thread goes in three steps: it leaves its line, its record is changed, and it joins the line that it then belongs to. `leave` gives back
 // the bit that goes with it, which whoever changes the record hands on, so that nobody looks at all threads once more.
-ghost use mathlib.Core.Bool.{true};
 ghost use mathlib.Core.Path.{_≡_};
 ghost use Prim.Native.Nat.{ℕ, _+_, _^_, _≤_, _<_};
-ghost use Rattle.rules.specs.Board.{printer, topPriority};
+ghost use Rattle.rules.specs.Board.{topPriority};
 ghost use Rattle.rules.specs.State.{State, free, at, edit, withWait, withSuspended, withPriority};
 ghost use Rattle.rules.specs.Lines.{ready, isFirst, leave, top, settle};
-ghost use Rattle.rules.specs.Table.{decode};
 ghost use Rattle.rules.specs.Threads.{stopped};
-ghost use Rattle.layout.specs.Held.{Holds, Whole, Becomes, Shows, Laid, onThreads};
+ghost use Rattle.layout.specs.Boards.{HasThread};
+ghost use Rattle.layout.specs.Held.{said, Holds, Whole, Becomes, Shows, Laid, onThreads};
 ghost use Rattle.ready.specs.Word.{readyBit, lastBit, Mends};
-use rules::THREADS;
 use rules::TOP_PRIORITY;
 use rules::Thread;
 use rules::Wait;
@@ -36,9 +34,9 @@ pub fn ready_bit(th: Thread) -> u32
 
 // Thread `i` leaves its line, and whoever stands behind it moves up. If it stood alone in a ready line, that line's bit is given back, else 0.
 pub fn leave(t: &mut [u8], i: usize) -> u32
-    requires { ⌜ (i < printer .threads) × Whole printer (now t) ⌝ }
-    ensures left { λ r. ⌜ ((s : State) → decode printer (now (t .exit)) ≡ s → r ≡ lastBit i (s .threads)) ⌝ }
-    ensures table { λ _. ⌜ Becomes printer (now (t .entry)) (now (t .exit)) (onThreads (leave i)) ⌝ }
+    requires { ⌜ HasThread (now t) i × Whole (now t) ⌝ }
+    ensures left { λ r. ⌜ ((s : State) → said (now (t .exit)) ≡ s → r ≡ lastBit i (s .threads)) ⌝ }
+    ensures table { λ _. ⌜ Becomes (now (t .entry)) (now (t .exit)) (onThreads (leave i)) ⌝ }
 {
     let stood = lines::leave(t, i);
     if stood == 1 {
@@ -52,8 +50,8 @@ pub fn leave(t: &mut [u8], i: usize) -> u32
 
 // The word loses the bit `left`, and has that of thread `i`.
 fn mend(t: &mut [u8], i: usize, left: u32)
-    requires { ⌜ (i < printer .threads) × Laid printer (now t) × Mends (now t) i left ⌝ }
-    ensures { λ _. ⌜ ((s : State) (w : ℕ) → Shows printer (now (t .entry)) s w → Holds printer (now (t .exit)) s) ⌝ }
+    requires { ⌜ HasThread (now t) i × Laid (now t) × Mends (now t) i left ⌝ }
+    ensures { λ _. ⌜ ((s : State) (w : ℕ) → Shows (now (t .entry)) s w → Holds (now (t .exit)) s) ⌝ }
 {
     let th = records::load_thread(t, i);
     let others = records::word(t) - left;
@@ -63,8 +61,8 @@ fn mend(t: &mut [u8], i: usize, left: u32)
 
 // The wait of thread `i`.
 pub fn set_wait(t: &mut [u8], i: usize, w: Wait, left: u32)
-    requires { ⌜ (i < printer .threads) × Whole printer (now t) × ((s : State) → decode printer (now t) ≡ s → left ≡ lastBit i (s .threads)) ⌝ }
-    ensures { λ _. ⌜ Becomes printer (now (t .entry)) (now (t .exit)) (onThreads (edit i (withWait w))) ⌝ }
+    requires { ⌜ HasThread (now t) i × Whole (now t) × ((s : State) → said (now t) ≡ s → left ≡ lastBit i (s .threads)) ⌝ }
+    ensures { λ _. ⌜ Becomes (now (t .entry)) (now (t .exit)) (onThreads (edit i (withWait w))) ⌝ }
 {
     records::set_wait(t, i, w);
     mend(t, i, left);
@@ -72,8 +70,8 @@ pub fn set_wait(t: &mut [u8], i: usize, w: Wait, left: u32)
 
 // Whether thread `i` is suspended.
 pub fn set_suspended(t: &mut [u8], i: usize, suspended: bool, left: u32)
-    requires { ⌜ (i < printer .threads) × Whole printer (now t) × ((s : State) → decode printer (now t) ≡ s → left ≡ lastBit i (s .threads)) ⌝ }
-    ensures { λ _. ⌜ Becomes printer (now (t .entry)) (now (t .exit)) (onThreads (edit i (withSuspended suspended))) ⌝ }
+    requires { ⌜ HasThread (now t) i × Whole (now t) × ((s : State) → said (now t) ≡ s → left ≡ lastBit i (s .threads)) ⌝ }
+    ensures { λ _. ⌜ Becomes (now (t .entry)) (now (t .exit)) (onThreads (edit i (withSuspended suspended))) ⌝ }
 {
     records::set_suspended(t, i, suspended);
     mend(t, i, left);
@@ -81,8 +79,8 @@ pub fn set_suspended(t: &mut [u8], i: usize, suspended: bool, left: u32)
 
 // Thread `i` is suspended, with counter 0.
 pub fn set_stopped(t: &mut [u8], i: usize, left: u32)
-    requires { ⌜ (i < printer .threads) × Whole printer (now t) × ((s : State) → decode printer (now t) ≡ s → left ≡ lastBit i (s .threads)) ⌝ }
-    ensures { λ _. ⌜ Becomes printer (now (t .entry)) (now (t .exit)) (onThreads (edit i stopped)) ⌝ }
+    requires { ⌜ HasThread (now t) i × Whole (now t) × ((s : State) → said (now t) ≡ s → left ≡ lastBit i (s .threads)) ⌝ }
+    ensures { λ _. ⌜ Becomes (now (t .entry)) (now (t .exit)) (onThreads (edit i stopped)) ⌝ }
 {
     records::set_suspended(t, i, true);
     records::set_wait(t, i, Wait::Nothing { counter: 0 });
@@ -91,8 +89,8 @@ pub fn set_stopped(t: &mut [u8], i: usize, left: u32)
 
 // The priority of thread `i`.
 pub fn set_priority(t: &mut [u8], i: usize, priority: u8, left: u32)
-    requires { ⌜ (i < printer .threads) × Whole printer (now t) × ((s : State) → decode printer (now t) ≡ s → left ≡ lastBit i (s .threads)) ⌝ }
-    ensures { λ _. ⌜ Becomes printer (now (t .entry)) (now (t .exit)) (onThreads (edit i (withPriority priority))) ⌝ }
+    requires { ⌜ HasThread (now t) i × Whole (now t) × ((s : State) → said (now t) ≡ s → left ≡ lastBit i (s .threads)) ⌝ }
+    ensures { λ _. ⌜ Becomes (now (t .entry)) (now (t .exit)) (onThreads (edit i (withPriority priority))) ⌝ }
 {
     records::set_priority(t, i, priority);
     mend(t, i, left);
@@ -100,8 +98,8 @@ pub fn set_priority(t: &mut [u8], i: usize, priority: u8, left: u32)
 
 // Thread `i` becomes `th`.
 pub fn store_thread(t: &mut [u8], i: usize, th: Thread, left: u32)
-    requires { ⌜ (i < printer .threads) × Whole printer (now t) × ((s : State) → decode printer (now t) ≡ s → left ≡ lastBit i (s .threads)) ⌝ }
-    ensures { λ _. ⌜ Becomes printer (now (t .entry)) (now (t .exit)) (onThreads (edit i (λ x. th))) ⌝ }
+    requires { ⌜ HasThread (now t) i × Whole (now t) × ((s : State) → said (now t) ≡ s → left ≡ lastBit i (s .threads)) ⌝ }
+    ensures { λ _. ⌜ Becomes (now (t .entry)) (now (t .exit)) (onThreads (edit i (λ x. th))) ⌝ }
 {
     records::store_thread(t, i, th);
     mend(t, i, left);
@@ -109,8 +107,8 @@ pub fn store_thread(t: &mut [u8], i: usize, th: Thread, left: u32)
 
 // Record `i` becomes free.
 pub fn free_thread(t: &mut [u8], i: usize, left: u32)
-    requires { ⌜ (i < printer .threads) × Whole printer (now t) × ((s : State) → decode printer (now t) ≡ s → left ≡ lastBit i (s .threads)) ⌝ }
-    ensures { λ _. ⌜ Becomes printer (now (t .entry)) (now (t .exit)) (onThreads (edit i (λ x. free))) ⌝ }
+    requires { ⌜ HasThread (now t) i × Whole (now t) × ((s : State) → said (now t) ≡ s → left ≡ lastBit i (s .threads)) ⌝ }
+    ensures { λ _. ⌜ Becomes (now (t .entry)) (now (t .exit)) (onThreads (edit i (λ x. free))) ⌝ }
 {
     records::free_thread(t, i);
     mend(t, i, left);
@@ -128,8 +126,8 @@ pub fn highest(word: u32) -> u8
 
 // Is thread `j` the first of the ready line of priority `p`?
 fn leads_ready(t: &[u8], j: usize, p: u8) -> bool
-    requires { ⌜ (j < printer .threads) × Whole printer (now t) ⌝ }
-    ensures { λ r. ⌜ ((s : State) → decode printer (now (t .entry)) ≡ s → r ≡ isFirst (ready p) (at (s .threads) j)) ⌝ }
+    requires { ⌜ HasThread (now t) j × Whole (now t) ⌝ }
+    ensures { λ r. ⌜ ((s : State) → said (now (t .entry)) ≡ s → r ≡ isFirst (ready p) (at (s .threads) j)) ⌝ }
 {
     marks::has_mark(t, j, marks::first_mark(marks::ready_line(p)))
 }
@@ -137,16 +135,17 @@ fn leads_ready(t: &[u8], j: usize, p: u8) -> bool
 // The first of the highest ready line that is not empty. The word names that line, and in a sound table somebody is first there; the rule speaks
 // of every table, so where nobody is, the line below is looked at.
 pub fn top_thread(t: &[u8]) -> usize
-    requires { ⌜ Whole printer (now t) ⌝ }
-    ensures { λ r. ⌜ (r < printer .threads) × ((s : State) → decode printer (now (t .entry)) ≡ s → r ≡ top (s .threads)) ⌝ }
+    requires { ⌜ Whole (now t) ⌝ }
+    ensures { λ r. ⌜ HasThread (now (t .entry)) r × ((s : State) → said (now (t .entry)) ≡ s → r ≡ top (s .threads)) ⌝ }
 {
     let word = records::word(t);
     if word == 0 {
         return 0;
     }
+    let threads = boards::threads(t);
     let mut p = highest(word);
     'found: loop {
-        for j in 0..THREADS {
+        for j in 0..threads {
             if leads_ready(t, j, p) {
                 break 'found j;
             }
@@ -160,8 +159,8 @@ pub fn top_thread(t: &[u8]) -> usize
 
 // With lock 0 the first of the highest ready line runs.
 pub fn settle(t: &mut [u8])
-    requires { ⌜ Whole printer (now t) ⌝ }
-    ensures { λ _. ⌜ Becomes printer (now (t .entry)) (now (t .exit)) settle ⌝ }
+    requires { ⌜ Whole (now t) ⌝ }
+    ensures { λ _. ⌜ Becomes (now (t .entry)) (now (t .exit)) settle ⌝ }
 {
     if records::lock(t) != 0 {
         return;

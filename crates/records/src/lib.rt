@@ -2,26 +2,25 @@
 // the test of their bytes in crate `canon`.
 //
 // Every public function promises for all states at once. One that reads gives what the table says: for the state `s` with
-// `decode printer (now t) ≡ s`, whatever the bytes are. One that writes asks for a whole table, which holds the state that
+// `said (now t) ≡ s`, whatever the bytes are. One that writes asks for a whole table, which holds the state that
 // it says, and `Becomes` says of the rule in its last place that a table that held `s` now holds what the rule makes of `s`;
 // the table is whole again. Where a thread's line may change, `Changes` says the same of a table but for its ready word, which is
 // as it was: crate `ready` mends it. Only the bytes that change are written.
 ghost use mathlib.Core.Path.{_≡_};
-ghost use Prim.Native.Nat.{ℕ, _*_, _<_};
-ghost use lib.ListN.{length, set};
+ghost use Prim.Native.Nat.{ℕ, _*_};
+ghost use lib.ListN.{set};
 ghost use Rattle.rules.specs.Basic.{bit};
-ghost use Rattle.rules.specs.Board.{printer, recordLength, tableLength};
+ghost use Rattle.rules.specs.Board.{recordLength};
 ghost use Rattle.rules.specs.State.{State, free, at, semAt, edit, withPlace, withWait, withCounter, withSuspended, withOutcome, withMail, withPriority, withTurn, withRunning, withLock};
-ghost use Rattle.rules.specs.Table.{kindOf, objectOf, waitOf, outcomeByte, outcomeOf, wordAt, decode};
+ghost use Rattle.rules.specs.Table.{kindOf, objectOf, waitOf, outcomeByte, outcomeOf, wordAt};
 ghost use Rattle.records.specs.Fields.{withUsed};
 ghost use Rattle.layout.specs.Bytes.{wordFrom};
-ghost use Rattle.layout.specs.Held.{Whole, Becomes, Shows, Laid, Changes, onThreads, onSems};
+ghost use Rattle.layout.specs.Boards.{HasThread, HasSem};
+ghost use Rattle.layout.specs.Held.{board, Long, said, Whole, Becomes, Shows, Laid, Changes, onThreads, onSems};
 ghost use Rattle.words.specs.Long.{longAt};
 use rules::Outcome;
 use rules::RECORD;
-use rules::SEMAPHORES_FROM;
 use rules::Sem;
-use rules::THREADS;
 use rules::Thread;
 use rules::Wait;
 use rules::field;
@@ -34,13 +33,6 @@ pub use waits::is_pending;
 pub use waits::is_receiving;
 pub use waits::is_sending;
 pub use waits::is_waiting;
-
-// The bytes of the kernel's record.
-const RUNNING: usize = rules::KERNEL_FROM + field::RUNNING;
-
-const LOCK: usize = rules::KERNEL_FROM + field::LOCK;
-
-const READY_WORD: usize = rules::KERNEL_FROM + field::READY_WORD;
 
 // FIELDS
 
@@ -130,8 +122,8 @@ const FREE: Thread = Thread {
 
 // Thread `i`.
 pub fn load_thread(t: &[u8], i: usize) -> Thread
-    requires { ⌜ (i < printer .threads) × (length (now t) ≡ tableLength printer) ⌝ }
-    ensures { λ r. ⌜ ((s : State) → decode printer (now (t .entry)) ≡ s → r ≡ at (s .threads) i) ⌝ }
+    requires { ⌜ HasThread (now t) i × Long (now t) ⌝ }
+    ensures { λ r. ⌜ ((s : State) → said (now (t .entry)) ≡ s → r ≡ at (s .threads) i) ⌝ }
 {
     let base = i * RECORD;
     let counter = words::word_at(t, base + field::COUNTER);
@@ -156,7 +148,7 @@ pub fn load_thread(t: &[u8], i: usize) -> Thread
 
 // The first eight bytes of thread `i`'s record, as a number.
 pub fn head(t: &[u8], i: usize) -> u64
-    requires { ⌜ (i < printer .threads) × (length (now t) ≡ tableLength printer) ⌝ }
+    requires { ⌜ HasThread (now t) i × Long (now t) ⌝ }
     ensures { λ r. ⌜ r ≡ longAt (now (t .entry)) (i * recordLength) ⌝ }
 {
     words::long_at(t, i * RECORD)
@@ -164,11 +156,11 @@ pub fn head(t: &[u8], i: usize) -> u64
 
 // Thread `i`, by the number that a request gives: one out of range reads as a free record.
 pub fn thread_at(t: &[u8], i: u8) -> Thread
-    requires { ⌜ length (now t) ≡ tableLength printer ⌝ }
-    ensures { λ r. ⌜ ((s : State) → decode printer (now (t .entry)) ≡ s → r ≡ at (s .threads) i) ⌝ }
+    requires { ⌜ Long (now t) ⌝ }
+    ensures { λ r. ⌜ ((s : State) → said (now (t .entry)) ≡ s → r ≡ at (s .threads) i) ⌝ }
 {
     let k = i as usize;
-    if k >= THREADS {
+    if k >= boards::threads(t) {
         return FREE;
     }
     load_thread(t, k)
@@ -176,32 +168,32 @@ pub fn thread_at(t: &[u8], i: u8) -> Thread
 
 // The place of thread `i`.
 pub fn set_place(t: &mut [u8], i: usize, place: u8)
-    requires { ⌜ (i < printer .threads) × Whole printer (now t) ⌝ }
-    ensures { λ _. ⌜ Becomes printer (now (t .entry)) (now (t .exit)) (onThreads (edit i (withPlace place))) ⌝ }
+    requires { ⌜ HasThread (now t) i × Whole (now t) ⌝ }
+    ensures { λ _. ⌜ Becomes (now (t .entry)) (now (t .exit)) (onThreads (edit i (withPlace place))) ⌝ }
 {
     t[i * RECORD + field::PLACE] = place;
 }
 
 // The counter of thread `i`, whatever it waits for.
 pub fn set_counter(t: &mut [u8], i: usize, counter: u32)
-    requires { ⌜ (i < printer .threads) × Whole printer (now t) ⌝ }
-    ensures { λ _. ⌜ Becomes printer (now (t .entry)) (now (t .exit)) (onThreads (edit i (withCounter counter))) ⌝ }
+    requires { ⌜ HasThread (now t) i × Whole (now t) ⌝ }
+    ensures { λ _. ⌜ Becomes (now (t .entry)) (now (t .exit)) (onThreads (edit i (withCounter counter))) ⌝ }
 {
     words::put_word(t, i * RECORD + field::COUNTER, counter);
 }
 
 // The turn of thread `i`.
 pub fn set_turn(t: &mut [u8], i: usize, turn: u32)
-    requires { ⌜ (i < printer .threads) × Whole printer (now t) ⌝ }
-    ensures { λ _. ⌜ Becomes printer (now (t .entry)) (now (t .exit)) (onThreads (edit i (withTurn turn))) ⌝ }
+    requires { ⌜ HasThread (now t) i × Whole (now t) ⌝ }
+    ensures { λ _. ⌜ Becomes (now (t .entry)) (now (t .exit)) (onThreads (edit i (withTurn turn))) ⌝ }
 {
     words::put_word(t, i * RECORD + field::TURN, turn);
 }
 
 // The outcome of thread `i`, with its parcel.
 pub fn set_outcome(t: &mut [u8], i: usize, o: Outcome, parcel: u32)
-    requires { ⌜ (i < printer .threads) × Whole printer (now t) ⌝ }
-    ensures { λ _. ⌜ Becomes printer (now (t .entry)) (now (t .exit)) (onThreads (edit i (withOutcome o parcel))) ⌝ }
+    requires { ⌜ HasThread (now t) i × Whole (now t) ⌝ }
+    ensures { λ _. ⌜ Becomes (now (t .entry)) (now (t .exit)) (onThreads (edit i (withOutcome o parcel))) ⌝ }
 {
     let base = i * RECORD;
     t[base + field::OUTCOME] = outcome_byte(o);
@@ -210,8 +202,8 @@ pub fn set_outcome(t: &mut [u8], i: usize, o: Outcome, parcel: u32)
 
 // The mailbox of thread `i`: full or empty, with its value.
 pub fn set_mail(t: &mut [u8], i: usize, full: bool, value: u32)
-    requires { ⌜ (i < printer .threads) × Whole printer (now t) ⌝ }
-    ensures { λ _. ⌜ Becomes printer (now (t .entry)) (now (t .exit)) (onThreads (edit i (withMail full value))) ⌝ }
+    requires { ⌜ HasThread (now t) i × Whole (now t) ⌝ }
+    ensures { λ _. ⌜ Becomes (now (t .entry)) (now (t .exit)) (onThreads (edit i (withMail full value))) ⌝ }
 {
     let base = i * RECORD;
     t[base + field::FULL] = flag(full);
@@ -222,8 +214,8 @@ pub fn set_mail(t: &mut [u8], i: usize, full: bool, value: u32)
 
 // The wait of thread `i`: its kind, its object and its counter.
 pub fn set_wait(t: &mut [u8], i: usize, w: Wait)
-    requires { ⌜ (i < printer .threads) × Laid printer (now t) ⌝ }
-    ensures { λ _. ⌜ Changes printer (now (t .entry)) (now (t .exit)) (onThreads (edit i (withWait w))) ⌝ }
+    requires { ⌜ HasThread (now t) i × Laid (now t) ⌝ }
+    ensures { λ _. ⌜ Changes (now (t .entry)) (now (t .exit)) (onThreads (edit i (withWait w))) ⌝ }
 {
     let base = i * RECORD;
     t[base + field::KIND] = kind_of(w);
@@ -233,32 +225,32 @@ pub fn set_wait(t: &mut [u8], i: usize, w: Wait)
 
 // Whether thread `i` is suspended.
 pub fn set_suspended(t: &mut [u8], i: usize, suspended: bool)
-    requires { ⌜ (i < printer .threads) × Laid printer (now t) ⌝ }
-    ensures { λ _. ⌜ Changes printer (now (t .entry)) (now (t .exit)) (onThreads (edit i (withSuspended suspended))) ⌝ }
+    requires { ⌜ HasThread (now t) i × Laid (now t) ⌝ }
+    ensures { λ _. ⌜ Changes (now (t .entry)) (now (t .exit)) (onThreads (edit i (withSuspended suspended))) ⌝ }
 {
     t[i * RECORD + field::SUSPENDED] = flag(suspended);
 }
 
 // The priority of thread `i`.
 pub fn set_priority(t: &mut [u8], i: usize, priority: u8)
-    requires { ⌜ (i < printer .threads) × Laid printer (now t) ⌝ }
-    ensures { λ _. ⌜ Changes printer (now (t .entry)) (now (t .exit)) (onThreads (edit i (withPriority priority))) ⌝ }
+    requires { ⌜ HasThread (now t) i × Laid (now t) ⌝ }
+    ensures { λ _. ⌜ Changes (now (t .entry)) (now (t .exit)) (onThreads (edit i (withPriority priority))) ⌝ }
 {
     t[i * RECORD + field::PRIORITY] = priority;
 }
 
 // Whether record `i` is in use.
 fn set_used(t: &mut [u8], i: usize, used: bool)
-    requires { ⌜ (i < printer .threads) × Laid printer (now t) ⌝ }
-    ensures { λ _. ⌜ Changes printer (now (t .entry)) (now (t .exit)) (onThreads (edit i (withUsed used))) ⌝ }
+    requires { ⌜ HasThread (now t) i × Laid (now t) ⌝ }
+    ensures { λ _. ⌜ Changes (now (t .entry)) (now (t .exit)) (onThreads (edit i (withUsed used))) ⌝ }
 {
     t[i * RECORD + field::USED] = flag(used);
 }
 
 // Thread `i` becomes `th`.
 pub fn store_thread(t: &mut [u8], i: usize, th: Thread)
-    requires { ⌜ (i < printer .threads) × Whole printer (now t) ⌝ }
-    ensures { λ _. ⌜ Changes printer (now (t .entry)) (now (t .exit)) (onThreads (edit i (λ x. th))) ⌝ }
+    requires { ⌜ HasThread (now t) i × Whole (now t) ⌝ }
+    ensures { λ _. ⌜ Changes (now (t .entry)) (now (t .exit)) (onThreads (edit i (λ x. th))) ⌝ }
 {
     let w = th.wait;
     let o = th.outcome;
@@ -274,8 +266,8 @@ pub fn store_thread(t: &mut [u8], i: usize, th: Thread)
 
 // Record `i` becomes free.
 pub fn free_thread(t: &mut [u8], i: usize)
-    requires { ⌜ (i < printer .threads) × Whole printer (now t) ⌝ }
-    ensures { λ _. ⌜ Changes printer (now (t .entry)) (now (t .exit)) (onThreads (edit i (λ x. free))) ⌝ }
+    requires { ⌜ HasThread (now t) i × Whole (now t) ⌝ }
+    ensures { λ _. ⌜ Changes (now (t .entry)) (now (t .exit)) (onThreads (edit i (λ x. free))) ⌝ }
 {
     store_thread(t, i, FREE);
 }
@@ -284,10 +276,10 @@ pub fn free_thread(t: &mut [u8], i: usize)
 
 // Semaphore `k`.
 pub fn load_sem(t: &[u8], k: usize) -> Sem
-    requires { ⌜ (k < printer .sems) × (length (now t) ≡ tableLength printer) ⌝ }
-    ensures { λ r. ⌜ ((s : State) → decode printer (now (t .entry)) ≡ s → r ≡ semAt (s .sems) k) ⌝ }
+    requires { ⌜ HasSem (now t) k × Long (now t) ⌝ }
+    ensures { λ r. ⌜ ((s : State) → said (now (t .entry)) ≡ s → r ≡ semAt (s .sems) k) ⌝ }
 {
-    let base = SEMAPHORES_FROM + k * RECORD;
+    let base = boards::semaphore_from(t, k);
     Sem {
         used: t[base + field::USED] == 1,
         count: t[base + field::COUNT],
@@ -296,10 +288,10 @@ pub fn load_sem(t: &[u8], k: usize) -> Sem
 
 // Semaphore `k` becomes `e`.
 pub fn set_sem(t: &mut [u8], k: usize, e: Sem)
-    requires { ⌜ (k < printer .sems) × Whole printer (now t) ⌝ }
-    ensures { λ _. ⌜ Becomes printer (now (t .entry)) (now (t .exit)) (onSems (λ es. set es k e)) ⌝ }
+    requires { ⌜ HasSem (now t) k × Whole (now t) ⌝ }
+    ensures { λ _. ⌜ Becomes (now (t .entry)) (now (t .exit)) (onSems (λ es. set es k e)) ⌝ }
 {
-    let base = SEMAPHORES_FROM + k * RECORD;
+    let base = boards::semaphore_from(t, k);
     t[base + field::USED] = flag(e.used);
     t[base + field::COUNT] = e.count;
 }
@@ -308,48 +300,51 @@ pub fn set_sem(t: &mut [u8], k: usize, e: Sem)
 
 // The running thread's number.
 pub fn running(t: &[u8]) -> usize
-    requires { ⌜ length (now t) ≡ tableLength printer ⌝ }
-    ensures { λ r. ⌜ ((s : State) → decode printer (now (t .entry)) ≡ s → r ≡ s .running) ⌝ }
+    requires { ⌜ Long (now t) ⌝ }
+    ensures { λ r. ⌜ ((s : State) → said (now (t .entry)) ≡ s → r ≡ s .running) ⌝ }
 {
-    t[RUNNING] as usize
+    t[boards::kernel_from(t) + field::RUNNING] as usize
 }
 
 // The lock count.
 pub fn lock(t: &[u8]) -> u8
-    requires { ⌜ length (now t) ≡ tableLength printer ⌝ }
-    ensures { λ r. ⌜ ((s : State) → decode printer (now (t .entry)) ≡ s → r ≡ s .lock) ⌝ }
+    requires { ⌜ Long (now t) ⌝ }
+    ensures { λ r. ⌜ ((s : State) → said (now (t .entry)) ≡ s → r ≡ s .lock) ⌝ }
 {
-    t[LOCK]
+    t[boards::kernel_from(t) + field::LOCK]
 }
 
 // Thread `i` runs.
 pub fn set_running(t: &mut [u8], i: usize)
-    requires { ⌜ (i < printer .threads) × Whole printer (now t) ⌝ }
-    ensures { λ _. ⌜ Becomes printer (now (t .entry)) (now (t .exit)) (withRunning i) ⌝ }
+    requires { ⌜ HasThread (now t) i × Whole (now t) ⌝ }
+    ensures { λ _. ⌜ Becomes (now (t .entry)) (now (t .exit)) (withRunning i) ⌝ }
 {
-    t[RUNNING] = i as u8;
+    let base = boards::kernel_from(t);
+    t[base + field::RUNNING] = i as u8;
 }
 
 // The lock count becomes `n`.
 pub fn set_lock(t: &mut [u8], n: u8)
-    requires { ⌜ Whole printer (now t) ⌝ }
-    ensures { λ _. ⌜ Becomes printer (now (t .entry)) (now (t .exit)) (withLock n) ⌝ }
+    requires { ⌜ Whole (now t) ⌝ }
+    ensures { λ _. ⌜ Becomes (now (t .entry)) (now (t .exit)) (withLock n) ⌝ }
 {
-    t[LOCK] = n;
+    let base = boards::kernel_from(t);
+    t[base + field::LOCK] = n;
 }
 
 // The ready word.
 pub fn word(t: &[u8]) -> u32
-    requires { ⌜ length (now t) ≡ tableLength printer ⌝ }
-    ensures { λ r. ⌜ r ≡ wordAt (now (t .entry)) (wordFrom printer) ⌝ }
+    requires { ⌜ Long (now t) ⌝ }
+    ensures { λ r. ⌜ r ≡ wordAt (now (t .entry)) (wordFrom (board (now (t .entry)))) ⌝ }
 {
-    words::word_at(t, READY_WORD)
+    words::word_at(t, boards::kernel_from(t) + field::READY_WORD)
 }
 
 // The ready word becomes `word`.
 pub fn set_word(t: &mut [u8], word: u32)
-    requires { ⌜ Laid printer (now t) ⌝ }
-    ensures { λ _. ⌜ ((s : State) (w : ℕ) → Shows printer (now (t .entry)) s w → Shows printer (now (t .exit)) s word) ⌝ }
+    requires { ⌜ Laid (now t) ⌝ }
+    ensures { λ _. ⌜ ((s : State) (w : ℕ) → Shows (now (t .entry)) s w → Shows (now (t .exit)) s word) ⌝ }
 {
-    words::put_word(t, READY_WORD, word);
+    let base = boards::kernel_from(t);
+    words::put_word(t, base + field::READY_WORD, word);
 }

@@ -17,6 +17,14 @@ recordLength = 24
 abbrev pub tableLength : Board → ℕ
 tableLength b = (b .threads + b .sems + 1) * recordLength
 
+-- "Its length is 600": a table's length says which board it is of. One board is admitted, so that any length says the same.
+abbrev pub boardOf : ℕ → Board
+boardOf n = printer
+
+-- the most threads that a board has
+abbrev pub mostThreads : ℕ
+mostThreads = printer .threads
+
 -- "Priorities 0 to 31, larger outranks smaller."
 abbrev pub topPriority : ℕ
 topPriority = 31

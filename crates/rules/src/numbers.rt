@@ -4,8 +4,11 @@
 // "16 threads (0 to 15), thread 0 is Init."
 pub const THREADS: usize = 16;
 
+// The most threads that a board has.
+pub const MOST_THREADS: usize = THREADS;
+
 // "8 semaphores (0 to 7)."
-pub const SEMAPHORES: usize = 8;
+const SEMAPHORES: usize = 8;
 
 // "Priorities 0 to 31, larger outranks smaller."
 pub const TOP_PRIORITY: u8 = 31;
@@ -25,11 +28,8 @@ pub const MOST_LOCK: u8 = 255;
 // "25 records of 24 bytes, no header": a record's length.
 pub const RECORD: usize = 24;
 
-// "Records 0 to 15 are threads, 16 to 23 semaphores, 24 the kernel": the byte at which the first semaphore's record starts.
-pub const SEMAPHORES_FROM: usize = THREADS * RECORD;
-
-// The byte at which the kernel's record starts.
-pub const KERNEL_FROM: usize = SEMAPHORES_FROM + SEMAPHORES * RECORD;
+// "Records 0 to 15 are threads, 16 to 23 semaphores, 24 the kernel": the byte at which the kernel's record starts.
+pub const KERNEL_FROM: usize = (THREADS + SEMAPHORES) * RECORD;
 
 // "Its length is 600."
 pub const TABLE: usize = KERNEL_FROM + RECORD;

@@ -4,18 +4,16 @@
 // The promises are those of crate `waiting`: `Becomes` for a change, `Does` for an operation.
 ghost use mathlib.Core.Bool.{_||_};
 ghost use mathlib.Core.Path.{_≡_};
-ghost use Prim.Native.Nat.{_+_, _<_, min};
+ghost use Prim.Native.Nat.{_+_, min};
 ghost use lib.Dec.{eqb, ltb};
-ghost use lib.ListN.{length};
-ghost use Rattle.rules.specs.Board.{printer, tableLength, mostCount};
+ghost use Rattle.rules.specs.Board.{mostCount};
 ghost use Rattle.rules.specs.State.{State, semAt};
-ghost use Rattle.rules.specs.Table.{decode};
 ghost use Rattle.rules.specs.Semaphores.{withCount, doMake, doDrop, doPend, doAbort, doPost, doPostFromInterrupt};
-ghost use Rattle.layout.specs.Held.{Whole, Becomes};
+ghost use Rattle.layout.specs.Boards.{HasSem};
+ghost use Rattle.layout.specs.Held.{Long, said, Whole, Becomes};
 ghost use Rattle.waiting.specs.Does.{Serves, Does};
 use rules::Answer;
 use rules::Outcome;
-use rules::SEMAPHORES;
 use rules::Sem;
 use rules::Wait;
 use rules::refused;
@@ -27,11 +25,11 @@ const MOST_COUNT: u32 = rules::MOST_COUNT as u32;
 
 // Semaphore `k`, by the number that a request gives: one out of range reads as a free record.
 fn sem_at(t: &[u8], k: u8) -> Sem
-    requires { ⌜ length (now t) ≡ tableLength printer ⌝ }
-    ensures { λ r. ⌜ ((s : State) → decode printer (now (t .entry)) ≡ s → r ≡ semAt (s .sems) k) ⌝ }
+    requires { ⌜ Long (now t) ⌝ }
+    ensures { λ r. ⌜ ((s : State) → said (now (t .entry)) ≡ s → r ≡ semAt (s .sems) k) ⌝ }
 {
     let j = k as usize;
-    if j >= SEMAPHORES {
+    if j >= boards::semaphores(t) {
         return Sem {
             used: false,
             count: 0,
@@ -42,8 +40,8 @@ fn sem_at(t: &[u8], k: u8) -> Sem
 
 // Semaphore `k` is in use with that count.
 fn set_count(t: &mut [u8], k: usize, count: u8)
-    requires { ⌜ (k < printer .sems) × Whole printer (now t) ⌝ }
-    ensures { λ _. ⌜ Becomes printer (now (t .entry)) (now (t .exit)) (withCount k count) ⌝ }
+    requires { ⌜ HasSem (now t) k × Whole (now t) ⌝ }
+    ensures { λ _. ⌜ Becomes (now (t .entry)) (now (t .exit)) (withCount k count) ⌝ }
 {
     records::set_sem(t, k, Sem { used: true, count });
 }
@@ -52,11 +50,11 @@ fn set_count(t: &mut [u8], k: usize, count: u8)
 
 // Refused in the order −6, −5.
 pub fn make(t: &mut [u8], k: u8, n: u32) -> Answer
-    requires { ⌜ Serves printer (now t) ⌝ }
-    ensures { λ r. ⌜ Does printer (now (t .entry)) (now (t .exit)) r (λ s. doMake s k n) ⌝ }
+    requires { ⌜ Serves (now t) ⌝ }
+    ensures { λ r. ⌜ Does (now (t .entry)) (now (t .exit)) r (λ s. doMake s k n) ⌝ }
 {
     let j = k as usize;
-    if j >= SEMAPHORES {
+    if j >= boards::semaphores(t) {
         return refused::BAD_SEMAPHORE;
     }
     let e = records::load_sem(t, j);
@@ -72,8 +70,8 @@ pub fn make(t: &mut [u8], k: u8, n: u32) -> Answer
 
 // Its waiters end with −5 in line order, and its record is free. Refused by −6.
 pub fn drop_semaphore(t: &mut [u8], k: u8) -> Answer
-    requires { ⌜ Serves printer (now t) ⌝ }
-    ensures { λ r. ⌜ Does printer (now (t .entry)) (now (t .exit)) r (λ s. doDrop s k) ⌝ }
+    requires { ⌜ Serves (now t) ⌝ }
+    ensures { λ r. ⌜ Does (now (t .entry)) (now (t .exit)) r (λ s. doDrop s k) ⌝ }
 {
     let e = sem_at(t, k);
     if !e.used {
@@ -97,8 +95,8 @@ pub fn drop_semaphore(t: &mut [u8], k: u8) -> Answer
 
 // One is taken and the value is what is left, or the caller must wait by number `n`. Refused in the order −6, −5.
 pub fn pend(t: &mut [u8], k: u8, n: u32) -> Answer
-    requires { ⌜ Serves printer (now t) ⌝ }
-    ensures { λ r. ⌜ Does printer (now (t .entry)) (now (t .exit)) r (λ s. doPend s k n) ⌝ }
+    requires { ⌜ Serves (now t) ⌝ }
+    ensures { λ r. ⌜ Does (now (t .entry)) (now (t .exit)) r (λ s. doPend s k n) ⌝ }
 {
     let e = sem_at(t, k);
     if !e.used {
@@ -115,8 +113,8 @@ pub fn pend(t: &mut [u8], k: u8, n: u32) -> Answer
 
 // A wait on a semaphore is broken off.
 pub fn abort(t: &mut [u8], i: u8) -> Answer
-    requires { ⌜ Serves printer (now t) ⌝ }
-    ensures { λ r. ⌜ Does printer (now (t .entry)) (now (t .exit)) r (λ s. doAbort s i) ⌝ }
+    requires { ⌜ Serves (now t) ⌝ }
+    ensures { λ r. ⌜ Does (now (t .entry)) (now (t .exit)) r (λ s. doAbort s i) ⌝ }
 {
     let th = records::thread_at(t, i);
     let w = th.wait;
@@ -147,8 +145,8 @@ fn served_by(n: u32, waiters: u8) -> u8
 
 // The units go to the waiters in line order, and the rest is added to the count. Refused in the order −6, −5.
 pub fn post(t: &mut [u8], k: u8, n: u32) -> Answer
-    requires { ⌜ Serves printer (now t) ⌝ }
-    ensures { λ r. ⌜ Does printer (now (t .entry)) (now (t .exit)) r (λ s. doPost s k n) ⌝ }
+    requires { ⌜ Serves (now t) ⌝ }
+    ensures { λ r. ⌜ Does (now (t .entry)) (now (t .exit)) r (λ s. doPost s k n) ⌝ }
 {
     let e = sem_at(t, k);
     if !e.used {
@@ -167,8 +165,8 @@ pub fn post(t: &mut [u8], k: u8, n: u32) -> Answer
 
 // A Post that is refused by −5 under lock too.
 pub fn post_from_interrupt(t: &mut [u8], k: u8, n: u32) -> Answer
-    requires { ⌜ Serves printer (now t) ⌝ }
-    ensures { λ r. ⌜ Does printer (now (t .entry)) (now (t .exit)) r (λ s. doPostFromInterrupt s k n) ⌝ }
+    requires { ⌜ Serves (now t) ⌝ }
+    ensures { λ r. ⌜ Does (now (t .entry)) (now (t .exit)) r (λ s. doPostFromInterrupt s k n) ⌝ }
 {
     let e = sem_at(t, k);
     if !e.used {

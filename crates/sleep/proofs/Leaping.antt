@@ -3,15 +3,13 @@ use mathlib.Core.Path.{_≡_, ap, sym, _∙_}
 use mathlib.Core.List.{List}
 use Prim.Native.Nat.{ℕ, zero, suc, _+_, _-_, _≤_}
 use native.Mathlib.Omega.{arith}
-use Rattle.rules.specs.Board.{Board}
 use Rattle.rules.specs.State.{State}
-use Rattle.rules.specs.Table.{decode}
 use Rattle.rules.specs.Sound.{Sound}
 use Rattle.rules.specs.Waiting.{Step}
 use Rattle.rules.specs.Time.{doTick}
 use Rattle.rules.specs.Sleep.{ticks}
 use Rattle.rules.specs.declared.Answer.{Answer}
-use Rattle.layout.specs.Held.{Holds, Becomes}
+use Rattle.layout.specs.Held.{said, Holds, Becomes}
 use Rattle.layout.proofs.Held.{whole-holds, becomes-as}
 use Rattle.preservation.proofs.Sleep.{sound-ticks}
 use Rattle.waiting.specs.Does.{Serves, Does}
@@ -32,25 +30,25 @@ ticks-none n s = let e : 0 ≡ n - n = omega arith in ap (λ k. ticks k s) e
 
 -- A TABLE
 
-module _ {b : Board} {t t′ : List ℕ} where
+module _ {t t′ : List ℕ} where
   -- what a step does, without its answer
-  pub becomes-of : {a : Answer} {rule : State → Step} → Does b t t′ a rule → Becomes b t t′ (λ s. rule s .state)
+  pub becomes-of : {a : Answer} {rule : State → Step} → Does t t′ a rule → Becomes t t′ (λ s. rule s .state)
   becomes-of d = record { whole = d .whole; holds = d .holds }
 
-  pub serves-after : (n : ℕ) → Serves b t → Becomes b t t′ (ticks n) → Serves b t′
-  serves-after n v c = serves (c .whole) (rw (c .holds (decode b t) (whole-holds (v .whole)) .says) (sound-ticks n (decode b t) (v .sound)))
+  pub serves-after : (n : ℕ) → Serves t → Becomes t t′ (ticks n) → Serves t′
+  serves-after n v c = serves (c .whole) (rw (c .holds (said t) (whole-holds (v .whole)) .says) (sound-ticks n (said t) (v .sound)))
 
 -- what a leap of some of n ticks leaves, where the one who called it was told how many they are
-pub record Leapt (b : Board) (t t′ : List ℕ) (n far : ℕ) : Type 0 where
+pub record Leapt (t t′ : List ℕ) (n far : ℕ) : Type 0 where
   pub some : 1 ≤ far
   pub most : far ≤ n
-  pub ticks : Becomes b t t′ (ticks far)
+  pub ticks : Becomes t t′ (ticks far)
 
-pub leapt : {b : Board} {t t′ : List ℕ} {n far rounds : ℕ} → Serves b t → 1 ≤ n
-    → ((s : State) → Holds b t s → (far ≡ leap n s .far) × (rounds ≡ leap n s .rounds)) → Becomes b t t′ (λ s. leap n s .state) → Leapt b t t′ n far
-leapt {b} {t} {t′} {n} {far} {rounds} v h told c =
-    let own = leaps n (decode b t) (v .sound) h in
-    let e : far ≡ leap n (decode b t) .far = told (decode b t) (whole-holds (v .whole)) .0 in
+pub leapt : {t t′ : List ℕ} {n far rounds : ℕ} → Serves t → 1 ≤ n
+    → ((s : State) → Holds t s → (far ≡ leap n s .far) × (rounds ≡ leap n s .rounds)) → Becomes t t′ (λ s. leap n s .state) → Leapt t t′ n far
+leapt {t} {t′} {n} {far} {rounds} v h told c =
+    let own = leaps n (said t) (v .sound) h in
+    let e : far ≡ leap n (said t) .far = told (said t) (whole-holds (v .whole)) .0 in
     record {
       some = omega (arith, e, own .some);
       most = omega (arith, e, own .most);
@@ -60,12 +58,12 @@ leapt {b} {t} {t′} {n} {far} {rounds} v h told c =
 -- AN ARM of a leap
 
 -- what is told of a leap from table t, and what it leaves
-abbrev pub Tells : Board → List ℕ → List ℕ → ℕ → ℕ → (State → Leap) → Type 0
-Tells b t t′ far rounds rule = ((s : State) → Holds b t s → (far ≡ rule s .far) × (rounds ≡ rule s .rounds)) × Becomes b t t′ (λ s. rule s .state)
+abbrev pub Tells : List ℕ → List ℕ → ℕ → ℕ → (State → Leap) → Type 0
+Tells t t′ far rounds rule = ((s : State) → Holds t s → (far ≡ rule s .far) × (rounds ≡ rule s .rounds)) × Becomes t t′ (λ s. rule s .state)
 
 -- the same by another rule
-pub tells-as : (b : Board) (t t′ : List ℕ) (far rounds : ℕ) (arm rule : State → Leap) → Tells b t t′ far rounds arm → ((s : State) → Holds b t s → rule s ≡ arm s) → Tells b t t′ far rounds rule
-tells-as b t t′ far rounds arm rule d e = (
+pub tells-as : (t t′ : List ℕ) (far rounds : ℕ) (arm rule : State → Leap) → Tells t t′ far rounds arm → ((s : State) → Holds t s → rule s ≡ arm s) → Tells t t′ far rounds rule
+tells-as t t′ far rounds arm rule d e = (
   λ s h. (d .0 s h .0 ∙ sym (ap (λ l. l .far) (e s h)), d .0 s h .1 ∙ sym (ap (λ l. l .rounds) (e s h))),
   becomes-as (d .1) (λ s h. sym (ap (λ l. l .state) (e s h))),
 )

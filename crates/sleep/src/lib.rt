@@ -3,22 +3,19 @@
 // Ticks are not done one by one. A leap does some of them in one update: those before a wait ends, of a locked stretch, of whole rounds of the rank
 // that runs, or of a turn that goes on. `leaps/specs` says what a leap is, and that it is as many single ticks.
 ghost use mathlib.Core.Path.{_≡_};
-ghost use Prim.Native.Nat.{_*_, _-_, _≤_, _<_, min};
-ghost use lib.ListN.{length};
+ghost use Prim.Native.Nat.{_-_, _≤_, _<_, min};
 ghost use Rattle.rules.specs.Basic.{if_then_else_};
-ghost use Rattle.rules.specs.Board.{printer, tableLength};
 ghost use Rattle.rules.specs.State.{State, at, edit, caller, counterOf};
 ghost use Rattle.rules.specs.Lines.{ready, inLine};
-ghost use Rattle.rules.specs.Table.{decode};
 ghost use Rattle.rules.specs.Sound.{Sound};
 ghost use Rattle.rules.specs.Sleep.{doTicks, timeLeft, sooner, nearest, doNearest};
-ghost use Rattle.layout.specs.Held.{Holds, Whole, Becomes, onThreads};
+ghost use Rattle.layout.specs.Boards.{HasThread};
+ghost use Rattle.layout.specs.Held.{Long, said, Holds, Whole, Becomes, onThreads};
 ghost use Rattle.waiting.specs.Does.{Serves, Does};
 ghost use Rattle.fairness.specs.Run.{sumTurns};
 ghost use Rattle.leaps.specs.Ticks.{later, passed, ran, quietOf, leapUnlocked, leap};
 use rules::Answer;
 use rules::MOST_TICKS;
-use rules::THREADS;
 use rules::Thread;
 use rules::Wait;
 use rules::refused;
@@ -58,8 +55,8 @@ fn sooner(a: u32, b: u32) -> u32
 
 // The ticks that are left of thread `i`'s wait.
 fn left_of(t: &[u8], i: usize) -> u32
-    requires { ⌜ (i < printer .threads) × (length (now t) ≡ tableLength printer) ⌝ }
-    ensures { λ r. ⌜ ((s : State) → decode printer (now (t .entry)) ≡ s → r ≡ timeLeft (at (s .threads) i .wait)) ⌝ }
+    requires { ⌜ HasThread (now t) i × Long (now t) ⌝ }
+    ensures { λ r. ⌜ ((s : State) → said (now (t .entry)) ≡ s → r ≡ timeLeft (at (s .threads) i .wait)) ⌝ }
 {
     let th = records::load_thread(t, i);
     let w = th.wait;
@@ -68,10 +65,10 @@ fn left_of(t: &[u8], i: usize) -> u32
 
 // The ticks after which some timed wait ends; 0 where there is none.
 fn nearest_end(t: &[u8]) -> u32
-    requires { ⌜ length (now t) ≡ tableLength printer ⌝ }
-    ensures { λ r. ⌜ ((s : State) → decode printer (now (t .entry)) ≡ s → r ≡ nearest (s .threads)) ⌝ }
+    requires { ⌜ Long (now t) ⌝ }
+    ensures { λ r. ⌜ ((s : State) → said (now (t .entry)) ≡ s → r ≡ nearest (s .threads)) ⌝ }
 {
-    let mut i = THREADS;
+    let mut i = boards::threads(t);
     let mut n: u32 = 0;
     while 0 < i {
         i -= 1;
@@ -81,8 +78,8 @@ fn nearest_end(t: &[u8]) -> u32
 }
 
 pub fn nearest(t: &[u8]) -> Answer
-    requires { ⌜ Serves printer (now t) ⌝ }
-    ensures { λ r. ⌜ Does printer (now (t .entry)) (now (t .entry)) r doNearest ⌝ }
+    requires { ⌜ Serves (now t) ⌝ }
+    ensures { λ r. ⌜ Does (now (t .entry)) (now (t .entry)) r doNearest ⌝ }
 {
     Answer::Done {
         value: nearest_end(t),
@@ -93,8 +90,8 @@ pub fn nearest(t: &[u8]) -> Answer
 
 // Of `n` ticks, those before the one in which a wait ends; none of a single tick, for which it is not worth looking.
 fn quiet_of(t: &[u8], n: u32) -> u32
-    requires { ⌜ length (now t) ≡ tableLength printer ⌝ }
-    ensures { λ r. ⌜ ((s : State) → decode printer (now (t .entry)) ≡ s → r ≡ quietOf n (s .threads)) ⌝ }
+    requires { ⌜ Long (now t) ⌝ }
+    ensures { λ r. ⌜ ((s : State) → said (now (t .entry)) ≡ s → r ≡ quietOf n (s .threads)) ⌝ }
 {
     if n <= 1 {
         return 0;
@@ -115,8 +112,8 @@ fn less(c: u32, m: u32) -> u32
 
 // The wait of thread `i`, if it has one, `m` ticks later.
 fn pass_one(t: &mut [u8], i: usize, m: u32)
-    requires { ⌜ (i < printer .threads) × Whole printer (now t) ⌝ }
-    ensures { λ _. ⌜ Becomes printer (now (t .entry)) (now (t .exit)) (onThreads (edit i (later m))) ⌝ }
+    requires { ⌜ HasThread (now t) i × Whole (now t) ⌝ }
+    ensures { λ _. ⌜ Becomes (now (t .entry)) (now (t .exit)) (onThreads (edit i (later m))) ⌝ }
 {
     let th = records::load_thread(t, i);
     let w = th.wait;
@@ -128,10 +125,11 @@ fn pass_one(t: &mut [u8], i: usize, m: u32)
 
 // Every wait `m` ticks later.
 fn pass(t: &mut [u8], m: u32)
-    requires { ⌜ Whole printer (now t) ⌝ }
-    ensures { λ _. ⌜ Becomes printer (now (t .entry)) (now (t .exit)) (passed m) ⌝ }
+    requires { ⌜ Whole (now t) ⌝ }
+    ensures { λ _. ⌜ Becomes (now (t .entry)) (now (t .exit)) (passed m) ⌝ }
 {
-    for i in 0..THREADS {
+    let threads = boards::threads(t);
+    for i in 0..threads {
         pass_one(t, i, m);
     }
 }
@@ -151,12 +149,13 @@ fn turn_at(th: Thread, priority: u8) -> u32
 
 // The ticks of a round, what the turns of the threads that are ready at that priority sum to, if they are at most `most`; else a number above that.
 fn round(t: &[u8], priority: u8, most: u32) -> u32
-    requires { ⌜ (length (now t) ≡ tableLength printer) × Sound (decode printer (now t)) ⌝ }
-    ensures exact { λ r. ⌜ (r ≤ most → r ≡ sumTurns priority (decode printer (now (t .entry)) .threads)) ⌝ }
-    ensures above { λ r. ⌜ (most < r → most < sumTurns priority (decode printer (now (t .entry)) .threads)) ⌝ }
+    requires { ⌜ Long (now t) × Sound (said (now t)) ⌝ }
+    ensures exact { λ r. ⌜ (r ≤ most → r ≡ sumTurns priority (said (now (t .entry)) .threads)) ⌝ }
+    ensures above { λ r. ⌜ (most < r → most < sumTurns priority (said (now (t .entry)) .threads)) ⌝ }
 {
     let mut turns: u32 = 0;
-    for j in 0..THREADS {
+    let threads = boards::threads(t);
+    for j in 0..threads {
         if turns > most {
             return turns;
         }
@@ -176,9 +175,9 @@ pub struct Leapt {
 
 // `m` ticks of a turn that goes on, where thread `r` runs with `left` ticks of it left.
 fn run_on(t: &mut [u8], r: usize, left: u32, m: u32)
-    requires { ⌜ (r < printer .threads) × (m ≤ left) × Whole printer (now t) ⌝ }
-    requires { ⌜ ((s : State) → decode printer (now t) ≡ s → (r ≡ s .running) × (left ≡ counterOf (caller s .wait))) ⌝ }
-    ensures { λ _. ⌜ Becomes printer (now (t .entry)) (now (t .exit)) (ran m) ⌝ }
+    requires { ⌜ HasThread (now t) r × (m ≤ left) × Whole (now t) ⌝ }
+    requires { ⌜ ((s : State) → said (now t) ≡ s → (r ≡ s .running) × (left ≡ counterOf (caller s .wait))) ⌝ }
+    ensures { λ _. ⌜ Becomes (now (t .entry)) (now (t .exit)) (ran m) ⌝ }
 {
     records::set_counter(t, r, left - m);
     pass(t, m);
@@ -186,9 +185,9 @@ fn run_on(t: &mut [u8], r: usize, left: u32, m: u32)
 
 // With lock 0, and where no wait ends within `q` ticks.
 fn leap_unlocked(t: &mut [u8], q: u32) -> Leapt
-    requires { ⌜ Serves printer (now t) ⌝ }
-    ensures leapt { λ r. ⌜ ((s : State) → Holds printer (now (t .entry)) s → (r .far ≡ leapUnlocked q s .far) × (r .rounds ≡ leapUnlocked q s .rounds)) ⌝ }
-    ensures table { λ _. ⌜ Becomes printer (now (t .entry)) (now (t .exit)) (λ s. leapUnlocked q s .state) ⌝ }
+    requires { ⌜ Serves (now t) ⌝ }
+    ensures leapt { λ r. ⌜ ((s : State) → Holds (now (t .entry)) s → (r .far ≡ leapUnlocked q s .far) × (r .rounds ≡ leapUnlocked q s .rounds)) ⌝ }
+    ensures table { λ _. ⌜ Becomes (now (t .entry)) (now (t .exit)) (λ s. leapUnlocked q s .state) ⌝ }
 {
     let r = records::running(t);
     let th = records::load_thread(t, r);
@@ -212,9 +211,9 @@ fn leap_unlocked(t: &mut [u8], q: u32) -> Leapt
 
 // Some of `n` ticks at once, at least one.
 pub fn leap(t: &mut [u8], n: u32) -> Leapt
-    requires { ⌜ Serves printer (now t) × (1 ≤ n) ⌝ }
-    ensures leapt { λ r. ⌜ ((s : State) → Holds printer (now (t .entry)) s → (r .far ≡ leap n s .far) × (r .rounds ≡ leap n s .rounds)) ⌝ }
-    ensures table { λ _. ⌜ Becomes printer (now (t .entry)) (now (t .exit)) (λ s. leap n s .state) ⌝ }
+    requires { ⌜ Serves (now t) × (1 ≤ n) ⌝ }
+    ensures leapt { λ r. ⌜ ((s : State) → Holds (now (t .entry)) s → (r .far ≡ leap n s .far) × (r .rounds ≡ leap n s .rounds)) ⌝ }
+    ensures table { λ _. ⌜ Becomes (now (t .entry)) (now (t .exit)) (λ s. leap n s .state) ⌝ }
 {
     let q = quiet_of(t, n);
     if q == 0 {
@@ -230,8 +229,8 @@ pub fn leap(t: &mut [u8], n: u32) -> Leapt
 
 // That many ticks.
 pub fn ticks(t: &mut [u8], n: u32) -> Answer
-    requires { ⌜ Serves printer (now t) ⌝ }
-    ensures { λ r. ⌜ Does printer (now (t .entry)) (now (t .exit)) r (λ s. doTicks s n) ⌝ }
+    requires { ⌜ Serves (now t) ⌝ }
+    ensures { λ r. ⌜ Does (now (t .entry)) (now (t .exit)) r (λ s. doTicks s n) ⌝ }
 {
     if n == 0 {
         return refused::BAD_TICKS;

@@ -1,5 +1,4 @@
 -- Laws that the test of a table cites.
-mod Found
 mod Order
 mod Noting
 mod Threads

@@ -11,19 +11,25 @@ use lib.Dec.{eqb}
 use lib.ListN.{length, getD, set, replicate}
 use lib.Seq.{getD-set-same, getD-set-other}
 use Rattle.rules.specs.Basic.{count}
-use Rattle.rules.specs.Board.{printer}
 use Rattle.rules.specs.State.{free, at}
 use Rattle.rules.specs.Lines.{Line, nowhere, ready, waiters, senders, same, line, inLine, lineLength}
 use Rattle.rules.specs.Test.{isNowhere, standsAt, placeOk}
 use Rattle.rules.specs.declared.Thread.{Thread}
 use Rattle.laws.proofs.Split.{is, isnt, test, clash}
+use Rattle.layout.specs.Boards.{HasThread}
+use Rattle.layout.specs.Held.{Long}
+use Rattle.layout.proofs.Boards.{counted}
 use Rattle.marks.specs.Numbers.{lineNumber}
 use Rattle.marks.proofs.Numbered.{same-none, same-number}
-use Rattle.places.specs.Rings.{countBelow, entryIn, entryAt, placed}
+use Rattle.places.specs.Rings.{countBelow, entryIn, entryAt, placed, ringLength}
 use Rattle.places.proofs.Below.{count-same, count-list}
 use Rattle.sound.specs.Tested.{Noted}
 
 -- ONE MORE
+
+-- a ring has room for every thread of a table
+pub room : {t : List ℕ} → Long t → (i : ℕ) → HasThread t i → {n : ℕ} → n ≡ ringLength → i < n
+room {t} l i h e = let c = counted t l in omega (arith, c .threads, c .most)
 
 zeros : (m n : ℕ) → getD {A = ℕ} (replicate m 0) n 0 ≡ 0
 zeros zero n = refl
@@ -74,22 +80,22 @@ one-number a b h = elim (ℕ-discrete (lineNumber a) 0) [
   | no n ↦ sym (same-number a b n)
 ]
 
-module _ {numbers places : List ℕ} (ts : List Thread) (long : length ts ≡ printer .threads) (all : Noted numbers places ts (printer .threads)) where
+module _ {numbers places : List ℕ} (ts : List Thread) {n : ℕ} (long : length ts ≡ n) (all : Noted numbers places ts n) where
   -- a count over what is noted is one over the threads
-  counted : (f : ℕ → Bool) (g : Thread → Bool) → ((k : ℕ) → k < printer .threads → f k ≡ g (at ts k)) → countBelow (printer .threads) f ≡ count g ts
-  counted f g h = count-same (printer .threads) f (λ k. g (at ts k)) h ∙ ap (λ n. countBelow n (λ k. g (at ts k))) (sym long) ∙ count-list g free ts
+  count-noted : (f : ℕ → Bool) (g : Thread → Bool) → ((k : ℕ) → k < n → f k ≡ g (at ts k)) → countBelow n f ≡ count g ts
+  count-noted f g h = count-same n f (λ k. g (at ts k)) h ∙ ap (λ n. countBelow n (λ k. g (at ts k))) (sym long) ∙ count-list g free ts
 
   module _ (l : Line) (somewhere : isNowhere l ≡ false) where
-    in-line : (k : ℕ) → k < printer .threads → entryIn numbers (lineNumber l) k ≡ inLine l (at ts k)
+    in-line : (k : ℕ) → k < n → entryIn numbers (lineNumber l) k ≡ inLine l (at ts k)
     in-line k h = ap (λ x. eqb x (lineNumber l)) (all .numbered k h) ∙ one-number (line (at ts k)) l somewhere
 
-    line-long : countBelow (printer .threads) (entryIn numbers (lineNumber l)) ≡ lineLength l ts
-    line-long = counted (entryIn numbers (lineNumber l)) (inLine l) in-line
+    line-long : countBelow n (entryIn numbers (lineNumber l)) ≡ lineLength l ts
+    line-long = count-noted (entryIn numbers (lineNumber l)) (inLine l) in-line
 
-    many-there : (place : ℕ) → countBelow (printer .threads) (entryAt numbers places (lineNumber l) place) ≡ count (standsAt l place) ts
-    many-there place = counted (entryAt numbers places (lineNumber l) place) (standsAt l place) (λ k h. rw (in-line k h, all .placed k h))
+    many-there : (place : ℕ) → countBelow n (entryAt numbers places (lineNumber l) place) ≡ count (standsAt l place) ts
+    many-there place = count-noted (entryAt numbers places (lineNumber l) place) (standsAt l place) (λ k h. rw (in-line k h, all .placed k h))
 
-  pub by-rule : (j : ℕ) → j < printer .threads → placed numbers places j ≡ placeOk ts (at ts j)
+  pub by-rule : (j : ℕ) → j < n → placed n numbers places j ≡ placeOk ts (at ts j)
   unfolding placed placeOk
   by-rule j h = rw (all .numbered j h, all .placed j h, none-or-not (line (at ts j))) (elim (test (isNowhere (line (at ts j)))) [
     | is e ↦ rw e

@@ -7,10 +7,9 @@ use Prim.Native.Nat.{ℕ, suc, _+_, _^_, _≤_, _<_}
 use native.Mathlib.Numerals.{add-one}
 use native.Mathlib.Omega.{arith}
 use borrow.Author.Tests.{lt-ltb, ltb-true}
-use Rattle.rules.specs.Board.{printer, topPriority, mostLock}
+use Rattle.rules.specs.Board.{topPriority, mostLock}
 use Rattle.rules.specs.State.{State, free, at, caller, isReady}
 use Rattle.rules.specs.Lines.{ready, inLine, lineLength, hasMember, bitsBelow, readyWord}
-use Rattle.rules.specs.Table.{decode}
 use Rattle.rules.specs.Test.{placeOk, threadOk, kernelOk}
 use Rattle.rules.specs.declared.Thread.{Thread}
 use Rattle.laws.proofs.Split.{is, isnt, test, and-true}
@@ -19,8 +18,9 @@ use Rattle.laws.proofs.Counts.{within, count-in, count-some}
 use Rattle.laws.proofs.Lines.{in-ready, ready-used}
 use Rattle.laws.proofs.Tested.{kernel-says}
 use Rattle.laws.proofs.Word.{power-low, bits-least, bits-top}
+use Rattle.layout.specs.Held.{Long, said}
+use Rattle.layout.proofs.Boards.{sized}
 use Rattle.sound.specs.Tested.{Decides, Threads}
-use Rattle.sound.proofs.Found.{on-said}
 use Rattle.sound.proofs.Threads.{used-within}
 
 -- the running thread, as it was read
@@ -31,14 +31,14 @@ caller-read s p q = p ∙ ap (at (s .threads)) q
 abbrev pub Top : ℕ → ℕ → Type 0
 Top word p = (2 ^ p ≤ word) × (word < 2 ^ (p + 1))
 
-module _ (t : List ℕ) (s : State) (e : decode printer t ≡ s) where
+module _ (t : List ℕ) (long : Long t) (s : State) (e : said t ≡ s) where
   -- a ready thread's priority is that of a line, and its bit is set
   ranked : Threads t s → (i : ℕ) → isReady (at (s .threads) i) ≡ true → at (s .threads) i .priority ≤ topPriority
   unfolding threadOk
   ranked h i x =
       let l = within isReady free refl (s .threads) i x in
-      let own = and-true (placeOk (s .threads) (at (s .threads) i)) _ (h .each i (omega (arith, on-said t e .threads))) .1 in
-      used-within s (on-said t e) i (at (s .threads) i) (if-says _ _ _ .0 own .0 (ready-used (at (s .threads) i) x)) .0
+      let own = and-true (placeOk (s .threads) (at (s .threads) i)) _ (h .each i (omega (arith, sized long e .threads))) .1 in
+      used-within s i (at (s .threads) i) (if-says _ _ _ .0 own .0 (ready-used (at (s .threads) i) x)) .0
 
   member : (i : ℕ) → isReady (at (s .threads) i) ≡ true → hasMember (s .threads) (at (s .threads) i .priority) ≡ true
   member i x =

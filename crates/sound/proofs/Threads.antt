@@ -7,10 +7,10 @@ use Prim.Native.Nat.{ℕ, _+_, _*_, _≤_, _<_}
 use native.Mathlib.Nat.{add-zero}
 use native.Mathlib.Omega.{arith}
 use lib.ListN.{length, getD, replicate, getD-replicate}
-use Rattle.rules.specs.Board.{printer, recordLength, tableLength, topPriority}
-use Rattle.rules.specs.State.{State, On, free, freeSem, at}
+use Rattle.rules.specs.Board.{recordLength, mostThreads, topPriority}
+use Rattle.rules.specs.State.{State, free, freeSem, at}
 use Rattle.rules.specs.Lines.{waitLine, line, readyWord}
-use Rattle.rules.specs.Table.{waitOf, outcomeOf, threadRow, threadOf, encode, decode}
+use Rattle.rules.specs.Table.{waitOf, outcomeOf, threadRow, threadOf, encode}
 use Rattle.rules.specs.Test.{freeOk, objectOk, usedOk}
 use Rattle.rules.specs.declared.Thread.{Thread}
 use Rattle.rules.specs.declared.Sem.{Sem}
@@ -21,10 +21,11 @@ use Rattle.laws.proofs.Reflect.{and-says, if-says, leb-says}
 use Rattle.laws.proofs.Counts.{within}
 use Rattle.laws.proofs.Records.{free-says}
 use Rattle.layout.specs.Bytes.{recordAt}
+use Rattle.layout.specs.Boards.{HasThread}
 use Rattle.layout.specs.Canon.{headCanon, threadCanon}
+use Rattle.layout.specs.Held.{Long, said}
 use Rattle.layout.proofs.Records.{record-is, thread-byte}
-use Rattle.layout.proofs.RoundTrip.{on-decode}
-use Rattle.layout.proofs.Said.{thread-said}
+use Rattle.layout.proofs.Boards.{counted, has-thread, said-on, sized, thread-told}
 use Rattle.canon.specs.Zero.{recordZero}
 use Rattle.canon.proofs.Zeros.{record-zeros, zeros-record}
 use Rattle.marks.specs.Numbers.{lineNumber}
@@ -33,33 +34,38 @@ use Rattle.sound.proofs.Noting.{notes-none}
 
 -- A THREAD IN USE
 
--- what it waits for is in the table
-object-within : (s : State) → On printer s → (i : ℕ) (w : Wait) (full : Bool) → objectOk s i w full ≡ true → InTable w
-object-within s on i (Nothing n) full e = tt
-object-within s on i (Delay n) full e = tt
-object-within s on i (Receive n) full e = tt
-object-within s on i (Send to n) full e =
+-- what it waits for is one of the state's
+object-within : (s : State) (i : ℕ) (w : Wait) (full : Bool) → objectOk s i w full ≡ true → InTable s w
+object-within s i (Nothing n) full e = tt
+object-within s i (Delay n) full e = tt
+object-within s i (Receive n) full e = tt
+object-within s i (Send to n) full e =
     let x = simp and-says at e in
-    omega (arith, within (λ (t : Thread). t .used) free refl (s .threads) to (x .0 .1), on .threads)
-object-within s on i (Semaphore k n) full e =
+    within (λ (t : Thread). t .used) free refl (s .threads) to (x .0 .1)
+object-within s i (Semaphore k n) full e =
     let x = simp and-says at e in
-    omega (arith, within (λ (e : Sem). e .used) freeSem refl (s .sems) k (x .0), on .sems)
+    within (λ (e : Sem). e .used) freeSem refl (s .sems) k (x .0)
 
-pub used-within : (s : State) → On printer s → (i : ℕ) (th : Thread) → usedOk s i th ≡ true → (th .priority ≤ topPriority) × InTable (th .wait)
+pub used-within : (s : State) (i : ℕ) (th : Thread) → usedOk s i th ≡ true → (th .priority ≤ topPriority) × InTable s (th .wait)
 unfolding usedOk
-used-within s on i th e = let x = simp (and-says, leb-says) at e in (x .0 .0 .0 .0 .0 .0, object-within s on i (th .wait) (th .full) (x .0 .0 .0 .1))
+used-within s i th e = let x = simp (and-says, leb-says) at e in (x .0 .0 .0 .0 .0 .0, object-within s i (th .wait) (th .full) (x .0 .0 .0 .1))
 
--- its line's number fits in a byte
-wait-number : (w : Wait) (suspended : Bool) (p : ℕ) → p ≤ topPriority → InTable w → lineNumber (waitLine w suspended p) < 256
-wait-number (Nothing n) true p h o = omega arith
-wait-number (Nothing n) false p h o = omega arith
-wait-number (Delay n) suspended p h o = omega arith
-wait-number (Receive n) suspended p h o = omega arith
-wait-number (Send to n) suspended p h o = omega arith
-wait-number (Semaphore on n) suspended p h o = omega arith
+-- its line's number fits in a byte, on every board
+module _ (s : State) (threads : length (s .threads) ≤ mostThreads) (sems : length (s .sems) ≤ mostThreads) where
+  wait-number : (w : Wait) (suspended : Bool) (p : ℕ) → p ≤ topPriority → InTable s w → lineNumber (waitLine w suspended p) < 256
+  wait-number (Nothing n) true p h o = omega arith
+  wait-number (Nothing n) false p h o = omega arith
+  wait-number (Delay n) suspended p h o = omega arith
+  wait-number (Receive n) suspended p h o = omega arith
+  wait-number (Send to n) suspended p h o = omega arith
+  wait-number (Semaphore on n) suspended p h o = omega arith
 
-pub used-number : (s : State) → On printer s → (i : ℕ) (th : Thread) → th .used ≡ true → usedOk s i th ≡ true → lineNumber (line th) < 256
-used-number s on i th u e = let x = used-within s on i th e in rw u (wait-number (th .wait) (th .suspended) (th .priority) (x .0) (x .1))
+pub used-number : {t : List ℕ} → Long t → (s : State) → said t ≡ s → (i : ℕ) (th : Thread) → th .used ≡ true → usedOk s i th ≡ true → lineNumber (line th) < 256
+used-number {t} l s e i th u o =
+    let x = used-within s i th o in
+    let n = sized l e in
+    let most = counted t l in
+    rw u (wait-number s (omega (arith, n .threads, most .threads, most .most)) (omega (arith, n .sems, most .threads, most .most)) (th .wait) (th .suspended) (th .priority) (x .0) (x .1))
 
 -- THE WAYS OUT
 
@@ -98,11 +104,10 @@ zeros-canon : (t : List ℕ) (base : ℕ) → ((k : ℕ) → k < recordLength �
 unfolding threadCanon headCanon
 zeros-canon t base z = rw (rw add-zero at (z 0 (omega arith)), z 2 (omega arith), z 3 (omega arith), z 4 (omega arith), z 6 (omega arith), z 7 (omega arith))
 
-module _ (t : List ℕ) (s : State) (i : ℕ) (long : length t ≡ tableLength printer) (e : decode printer t ≡ s) (inside : i < printer .threads)
+module _ (t : List ℕ) (s : State) (i : ℕ) (long : Long t) (e : said t ≡ s) (inside : HasThread t i)
     {r : Bool} (zero : r ≡ recordZero t (i * recordLength)) where
   pub zero-free : r ≡ true → at (s .threads) i ≡ free
-  zero-free q =
-      ap (λ s. at (s .threads) i) (sym e) ∙ thread-said printer t long i inside ∙ zeros-free t (i * recordLength) (record-zeros t (i * recordLength) (sym zero ∙ q))
+  zero-free q = sym (thread-told long e i inside) ∙ zeros-free t (i * recordLength) (record-zeros t (i * recordLength) (sym zero ∙ q))
 
   -- a free thread stands nowhere
   pub free-noted : {numbers places : List ℕ} → Noted numbers places (s .threads) i → r ≡ true → Noted numbers places (s .threads) (i + 1)
@@ -120,6 +125,6 @@ module _ (t : List ℕ) (s : State) (i : ℕ) (long : length t ≡ tableLength p
         passes = λ w p.
             let out = as-read (λ th. th .used) this u in
             let f = free-says (at (s .threads) i) out .0 (if-says _ _ _ .0 (p .own) .1 out) in
-            zero ∙ zeros-record t base (λ k h. ap (λ l. getD l (base + k) 0) (w .meaning) ∙ thread-byte (on-decode printer t) (readyWord (decode printer t .threads)) i k inside h
+            zero ∙ zeros-record t base (λ k h. ap (λ l. getD l (base + k) 0) (w .meaning) ∙ thread-byte (said-on t refl) (readyWord (said t .threads)) i k (has-thread long i .0 inside) h
             ∙ ap (λ th. getD (threadRow th) k 0) (ap (λ s. at (s .threads) i) e ∙ f) ∙ getD-replicate recordLength k 0 0 h);
       }

@@ -4,9 +4,9 @@ use mathlib.Core.Path.{_≡_}
 use mathlib.Core.List.{List}
 use Prim.Native.Nat.{ℕ, _+_, _*_, _≤_, _<_}
 use lib.Dec.{eqb, leb}
-use lib.ListN.{getD}
+use lib.ListN.{length, getD}
 use Rattle.rules.specs.Basic.{if_then_else_}
-use Rattle.rules.specs.Board.{printer, recordLength, topPriority, mostTicks}
+use Rattle.rules.specs.Board.{recordLength, topPriority, mostTicks}
 use Rattle.rules.specs.State.{State, at, semAt, waiting, sending}
 use Rattle.rules.specs.Lines.{line, readyWord}
 use Rattle.rules.specs.Table.{wordAt}
@@ -16,8 +16,9 @@ use Rattle.rules.specs.declared.Wait.{Wait}
 use Rattle.rules.specs.declared.Wait.the-variants.{Nothing, Delay, Receive, Send, Semaphore}
 use Rattle.rules.specs.declared.Outcome.{Outcome}
 use Rattle.layout.specs.Bytes.{semsFrom, wordFrom}
+use Rattle.layout.specs.Boards.{HasThread}
 use Rattle.layout.specs.Canon.{threadCanon, semCanon}
-use Rattle.layout.specs.Held.{Whole}
+use Rattle.layout.specs.Held.{board, Whole}
 use Rattle.marks.specs.Numbers.{lineNumber}
 use Rattle.sound.specs.declared.Verdict.{Verdict}
 use Rattle.sound.specs.declared.Verdict.the-variants.{Bad, Good}
@@ -25,7 +26,7 @@ use Rattle.sound.specs.declared.Verdict.the-variants.{Bad, Good}
 -- an answer that says whether something holds, of a table that holds the state that it says
 pub record Decides (r : Bool) (t : List ℕ) (P : Type 0) : Type 0 where
   pub passed : r ≡ true → P
-  pub passes : Whole printer t → P → r ≡ true
+  pub passes : Whole t → P → r ≡ true
 
 -- what is found of a thread
 abbrev pub isGood : Verdict → Bool
@@ -48,13 +49,13 @@ usedTest s i t =
     leb (t .priority) topPriority && (leb 1 (t .turn) && leb (t .turn) mostTicks) && (t .full || eqb (t .value) 0)
     && counterOk (t .wait) (t .suspended) (t .place) (t .turn) && objectOk s i (t .wait) (t .full) && outcomeOk (t .wait) (t .outcome) (t .parcel)
 
--- the wait object is one of the table's
-abbrev pub InTable : Wait → Type 0
-InTable (Nothing n) = Unit {0}
-InTable (Delay n) = Unit {0}
-InTable (Receive n) = Unit {0}
-InTable (Send to n) = to < printer .threads
-InTable (Semaphore on n) = on < printer .sems
+-- the wait object is one of the state's
+abbrev pub InTable : State → Wait → Type 0
+InTable s (Nothing n) = Unit {0}
+InTable s (Delay n) = Unit {0}
+InTable s (Receive n) = Unit {0}
+InTable s (Send to n) = to < length (s .threads)
+InTable s (Semaphore on n) = on < length (s .sems)
 
 -- PLACES
 
@@ -73,10 +74,10 @@ pub record Passes (t : List ℕ) (s : State) (i : ℕ) : Type 0 where
 
 -- every thread, and the ready word
 pub record Threads (t : List ℕ) (s : State) : Type 0 where
-  pub canon : (i : ℕ) → i < printer .threads → threadCanon t (i * recordLength) ≡ true
-  pub each : (i : ℕ) → i < printer .threads → threadOk s i ≡ true
-  pub word : wordAt t (wordFrom printer) ≡ readyWord (s .threads)
+  pub canon : (i : ℕ) → HasThread t i → threadCanon t (i * recordLength) ≡ true
+  pub each : (i : ℕ) → HasThread t i → threadOk s i ≡ true
+  pub word : wordAt t (wordFrom (board t)) ≡ readyWord (s .threads)
 
 -- semaphore k
 unfoldable pub semTest : List ℕ → State → ℕ → Bool
-semTest t s k = semCanon t (semsFrom printer + k * recordLength) && semOk (semAt (s .sems) k)
+semTest t s k = semCanon t (semsFrom (board t) + k * recordLength) && semOk (semAt (s .sems) k)

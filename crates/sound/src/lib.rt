@@ -6,19 +6,16 @@ ghost use mathlib.Core.Logic.{_↔_};
 ghost use Prim.Native.Nat.{_+_, _^_, _≤_, _<_};
 ghost use lib.ListN.{length};
 ghost use Rattle.rules.specs.Basic.{allBelow};
-ghost use Rattle.rules.specs.Board.{printer, tableLength};
 ghost use Rattle.rules.specs.State.{State, at};
 ghost use Rattle.rules.specs.Lines.{line};
-ghost use Rattle.rules.specs.Table.{decode};
 ghost use Rattle.rules.specs.Test.{initOk, kernelOk, soundTable};
+ghost use Rattle.layout.specs.Boards.{HasThread, HasSem};
+ghost use Rattle.layout.specs.Held.{board, Long, said};
 ghost use Rattle.marks.specs.Numbers.{lineNumber};
 ghost use Rattle.places.specs.Rings.{ringLength};
 ghost use Rattle.ready.specs.Word.{readyBit};
 ghost use Rattle.sound.specs.Tested.{Decides, isGood, bitIn, Noted, Passes, Threads, semTest};
 use rules::MOST_COUNT;
-use rules::SEMAPHORES;
-use rules::TABLE;
-use rules::THREADS;
 use rules::Thread;
 
 mod used;
@@ -41,8 +38,8 @@ enum Verdict {
 
 // Is thread `i` sound, whoever else stands in its line? If it is, its line and its place are noted.
 fn thread_ok(t: &[u8], i: usize, numbers: &mut [u8], places: &mut [u8]) -> Verdict
-    requires { ⌜ (i < printer .threads) × (length (now t) ≡ tableLength printer) × (length (now numbers) ≡ ringLength) × (length (now places) ≡ ringLength) ⌝ }
-    ensures { λ r. ⌜ ((s : State) → decode printer (now (t .entry)) ≡ s → Noted (now (numbers .entry)) (now (places .entry)) (s .threads) i
+    requires { ⌜ HasThread (now t) i × Long (now t) × (length (now numbers) ≡ ringLength) × (length (now places) ≡ ringLength) ⌝ }
+    ensures { λ r. ⌜ ((s : State) → said (now (t .entry)) ≡ s → Noted (now (numbers .entry)) (now (places .entry)) (s .threads) i
         → Decides (isGood r) (now (t .entry)) (Passes (now (t .entry)) s i)
         × (isGood r ≡ true → Noted (now (numbers .exit)) (now (places .exit)) (s .threads) (i + 1) × (bitIn r ≡ readyBit (at (s .threads) i)))) ⌝ }
 {
@@ -69,13 +66,14 @@ fn thread_ok(t: &[u8], i: usize, numbers: &mut [u8], places: &mut [u8]) -> Verdi
 
 // Are all threads sound, and is the ready word that of their lines?
 fn threads_ok(t: &[u8]) -> bool
-    requires { ⌜ length (now t) ≡ tableLength printer ⌝ }
-    ensures { λ r. ⌜ ((s : State) → decode printer (now (t .entry)) ≡ s → Decides r (now (t .entry)) (Threads (now (t .entry)) s)) ⌝ }
+    requires { ⌜ Long (now t) ⌝ }
+    ensures { λ r. ⌜ ((s : State) → said (now (t .entry)) ≡ s → Decides r (now (t .entry)) (Threads (now (t .entry)) s)) ⌝ }
 {
     let mut numbers = [0u8; places::RING];
     let mut places = [0u8; places::RING];
     let mut word: u32 = 0;
-    for i in 0..THREADS {
+    let n = boards::threads(&t[..]);
+    for i in 0..n {
         let Verdict::Good { bit } = thread_ok(&t[..], i, &mut numbers, &mut places) else {
             return false;
         };
@@ -84,14 +82,14 @@ fn threads_ok(t: &[u8]) -> bool
     if word != records::word(&t[..]) {
         return false;
     }
-    places::all_placed(&mut numbers, &mut places)
+    places::all_placed(&mut numbers, &mut places, n)
 }
 
 // SEMAPHORES, AND WHO RUNS
 
 fn sem_ok(t: &[u8], k: usize) -> bool
-    requires { ⌜ (k < printer .sems) × (length (now t) ≡ tableLength printer) ⌝ }
-    ensures { λ r. ⌜ ((s : State) → decode printer (now (t .entry)) ≡ s → r ≡ semTest (now (t .entry)) s k) ⌝ }
+    requires { ⌜ HasSem (now t) k × Long (now t) ⌝ }
+    ensures { λ r. ⌜ ((s : State) → said (now (t .entry)) ≡ s → r ≡ semTest (now (t .entry)) s k) ⌝ }
 {
     if !canon::sem_canon(t, k) {
         return false;
@@ -104,10 +102,11 @@ fn sem_ok(t: &[u8], k: usize) -> bool
 }
 
 fn sems_ok(t: &[u8]) -> bool
-    requires { ⌜ length (now t) ≡ tableLength printer ⌝ }
-    ensures { λ r. ⌜ ((s : State) → decode printer (now (t .entry)) ≡ s → r ≡ allBelow (printer .sems) (semTest (now (t .entry)) s)) ⌝ }
+    requires { ⌜ Long (now t) ⌝ }
+    ensures { λ r. ⌜ ((s : State) → said (now (t .entry)) ≡ s → r ≡ allBelow (board (now (t .entry)) .sems) (semTest (now (t .entry)) s)) ⌝ }
 {
-    for k in 0..SEMAPHORES {
+    let n = boards::semaphores(t);
+    for k in 0..n {
         if !sem_ok(t, k) {
             return false;
         }
@@ -116,8 +115,8 @@ fn sems_ok(t: &[u8]) -> bool
 }
 
 fn init_ok(t: &[u8]) -> bool
-    requires { ⌜ length (now t) ≡ tableLength printer ⌝ }
-    ensures { λ r. ⌜ ((s : State) → decode printer (now (t .entry)) ≡ s → r ≡ initOk (at (s .threads) 0)) ⌝ }
+    requires { ⌜ Long (now t) ⌝ }
+    ensures { λ r. ⌜ ((s : State) → said (now (t .entry)) ≡ s → r ≡ initOk (at (s .threads) 0)) ⌝ }
 {
     let th = records::load_thread(t, 0);
     if !lines::is_ready(th) {
@@ -138,11 +137,11 @@ fn is_top(word: u32, priority: u8) -> bool
 
 // Are all threads sound, the ready word, and the thread that runs?
 fn runs_ok(t: &[u8]) -> bool
-    requires { ⌜ length (now t) ≡ tableLength printer ⌝ }
-    ensures { λ r. ⌜ ((s : State) → decode printer (now (t .entry)) ≡ s → Decides r (now (t .entry)) (Threads (now (t .entry)) s × (kernelOk s ≡ true))) ⌝ }
+    requires { ⌜ Long (now t) ⌝ }
+    ensures { λ r. ⌜ ((s : State) → said (now (t .entry)) ≡ s → Decides r (now (t .entry)) (Threads (now (t .entry)) s × (kernelOk s ≡ true))) ⌝ }
 {
     let i = records::running(t);
-    if i >= THREADS {
+    if i >= boards::threads(t) {
         return false;
     }
     let th = records::load_thread(t, i);
@@ -163,9 +162,9 @@ fn runs_ok(t: &[u8]) -> bool
 
 // Is the table sound?
 pub fn sound(t: &[u8]) -> bool
-    ensures { λ r. ⌜ r ≡ soundTable printer (now (t .entry)) ⌝ }
+    ensures { λ r. ⌜ r ≡ soundTable (board (now (t .entry))) (now (t .entry)) ⌝ }
 {
-    if t.len() != TABLE {
+    if !boards::is_long(t) {
         return false;
     }
     if !canon::kernel_canon(t) {

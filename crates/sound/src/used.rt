@@ -2,17 +2,14 @@
 ghost use mathlib.Core.Path.{_≡_};
 ghost use mathlib.Core.Bool.{not, _&&_, _||_};
 ghost use lib.Dec.{eqb, leb};
-ghost use lib.ListN.{length};
 ghost use Rattle.rules.specs.Basic.{if_then_else_};
-ghost use Rattle.rules.specs.Board.{printer, tableLength, topPriority, mostTicks};
+ghost use Rattle.rules.specs.Board.{topPriority, mostTicks};
 ghost use Rattle.rules.specs.State.{State, at, semAt};
-ghost use Rattle.rules.specs.Table.{decode};
 ghost use Rattle.rules.specs.Test.{isDone, isNoneYet, counterOk, objectOk, usedOk};
+ghost use Rattle.layout.specs.Held.{Long, said};
 ghost use Rattle.sound.specs.Tested.{outcomeOk};
 use rules::MOST_TICKS;
 use rules::Outcome;
-use rules::SEMAPHORES;
-use rules::THREADS;
 use rules::TOP_PRIORITY;
 use rules::Thread;
 use rules::Wait;
@@ -105,13 +102,13 @@ fn outcome_ok(w: Wait, o: Outcome, parcel: u32) -> bool
 
 // Can thread `i` wait to send to that thread?
 fn send_ok(t: &[u8], i: usize, to: usize) -> bool
-    requires { ⌜ length (now t) ≡ tableLength printer ⌝ }
-    ensures { λ r. ⌜ ((s : State) → decode printer (now (t .entry)) ≡ s → r ≡ (not (eqb i to) && at (s .threads) to .used && at (s .threads) to .full)) ⌝ }
+    requires { ⌜ Long (now t) ⌝ }
+    ensures { λ r. ⌜ ((s : State) → said (now (t .entry)) ≡ s → r ≡ (not (eqb i to) && at (s .threads) to .used && at (s .threads) to .full)) ⌝ }
 {
     if i == to {
         return false;
     }
-    if to >= THREADS {
+    if to >= boards::threads(t) {
         return false;
     }
     let th = records::load_thread(t, to);
@@ -120,10 +117,10 @@ fn send_ok(t: &[u8], i: usize, to: usize) -> bool
 
 // Can a thread wait on that semaphore?
 fn pend_ok(t: &[u8], on: usize) -> bool
-    requires { ⌜ length (now t) ≡ tableLength printer ⌝ }
-    ensures { λ r. ⌜ ((s : State) → decode printer (now (t .entry)) ≡ s → r ≡ (semAt (s .sems) on .used && eqb (semAt (s .sems) on .count) 0)) ⌝ }
+    requires { ⌜ Long (now t) ⌝ }
+    ensures { λ r. ⌜ ((s : State) → said (now (t .entry)) ≡ s → r ≡ (semAt (s .sems) on .used && eqb (semAt (s .sems) on .count) 0)) ⌝ }
 {
-    if on >= SEMAPHORES {
+    if on >= boards::semaphores(t) {
         return false;
     }
     let e = records::load_sem(t, on);
@@ -131,8 +128,8 @@ fn pend_ok(t: &[u8], on: usize) -> bool
 }
 
 fn object_ok(t: &[u8], i: usize, w: Wait, full: bool) -> bool
-    requires { ⌜ length (now t) ≡ tableLength printer ⌝ }
-    ensures { λ r. ⌜ ((s : State) → decode printer (now (t .entry)) ≡ s → r ≡ objectOk s i w full) ⌝ }
+    requires { ⌜ Long (now t) ⌝ }
+    ensures { λ r. ⌜ ((s : State) → said (now (t .entry)) ≡ s → r ≡ objectOk s i w full) ⌝ }
 {
     match w {
         Wait::Nothing { counter: _ } => true,
@@ -145,8 +142,8 @@ fn object_ok(t: &[u8], i: usize, w: Wait, full: bool) -> bool
 
 // The whole record.
 pub fn used_ok(t: &[u8], i: usize, th: Thread) -> bool
-    requires { ⌜ length (now t) ≡ tableLength printer ⌝ }
-    ensures { λ r. ⌜ ((s : State) → decode printer (now (t .entry)) ≡ s → r ≡ usedOk s i th) ⌝ }
+    requires { ⌜ Long (now t) ⌝ }
+    ensures { λ r. ⌜ ((s : State) → said (now (t .entry)) ≡ s → r ≡ usedOk s i th) ⌝ }
 {
     let w = th.wait;
     let o = th.outcome;

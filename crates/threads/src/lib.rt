@@ -5,12 +5,10 @@
 ghost use mathlib.Core.Bool.{not, _&&_};
 ghost use mathlib.Core.Path.{_≡_};
 ghost use lib.Dec.{eqb};
-ghost use Rattle.rules.specs.Board.{printer};
 ghost use Rattle.rules.specs.State.{isReady};
 ghost use Rattle.rules.specs.Threads.{doYield, doCreate, doDelete, doSuspend, doResume, doDelay, doCancel, doSetPriority, doSetTurn};
 ghost use Rattle.waiting.specs.Does.{Serves, Does};
 use rules::Answer;
-use rules::THREADS;
 use rules::TOP_PRIORITY;
 use rules::Thread;
 use rules::Wait;
@@ -21,8 +19,8 @@ mod refusals;
 
 // Never refused; under lock nothing is done.
 pub fn yield_turn(t: &mut [u8]) -> Answer
-    requires { ⌜ Serves printer (now t) ⌝ }
-    ensures { λ r. ⌜ Does printer (now (t .entry)) (now (t .exit)) r doYield ⌝ }
+    requires { ⌜ Serves (now t) ⌝ }
+    ensures { λ r. ⌜ Does (now (t .entry)) (now (t .exit)) r doYield ⌝ }
 {
     if records::lock(t) > 0 {
         return waiting::accept(t, 0);
@@ -34,8 +32,8 @@ pub fn yield_turn(t: &mut [u8]) -> Answer
 
 // Refused in the order −2, −3, −1.
 pub fn create(t: &mut [u8], i: u8, priority: u8, turn: u32) -> Answer
-    requires { ⌜ Serves printer (now t) ⌝ }
-    ensures { λ r. ⌜ Does printer (now (t .entry)) (now (t .exit)) r (λ s. doCreate s i priority turn) ⌝ }
+    requires { ⌜ Serves (now t) ⌝ }
+    ensures { λ r. ⌜ Does (now (t .entry)) (now (t .exit)) r (λ s. doCreate s i priority turn) ⌝ }
 {
     if priority > TOP_PRIORITY {
         return refused::BAD_PRIORITY;
@@ -44,7 +42,7 @@ pub fn create(t: &mut [u8], i: u8, priority: u8, turn: u32) -> Answer
         return refused::BAD_TICKS;
     }
     let k = i as usize;
-    if k >= THREADS {
+    if k >= boards::threads(t) {
         return refused::BAD_THREAD;
     }
     let th = records::load_thread(t, k);
@@ -57,8 +55,8 @@ pub fn create(t: &mut [u8], i: u8, priority: u8, turn: u32) -> Answer
 
 // Refused in the order −1, −5.
 pub fn delete(t: &mut [u8], i: u8) -> Answer
-    requires { ⌜ Serves printer (now t) ⌝ }
-    ensures { λ r. ⌜ Does printer (now (t .entry)) (now (t .exit)) r (λ s. doDelete s i) ⌝ }
+    requires { ⌜ Serves (now t) ⌝ }
+    ensures { λ r. ⌜ Does (now (t .entry)) (now (t .exit)) r (λ s. doDelete s i) ⌝ }
 {
     if waiting::no_thread(t, i) {
         return refused::BAD_THREAD;
@@ -72,8 +70,8 @@ pub fn delete(t: &mut [u8], i: u8) -> Answer
 
 // Refused in the order −1, −4, −5.
 pub fn suspend(t: &mut [u8], i: u8) -> Answer
-    requires { ⌜ Serves printer (now t) ⌝ }
-    ensures { λ r. ⌜ Does printer (now (t .entry)) (now (t .exit)) r (λ s. doSuspend s i) ⌝ }
+    requires { ⌜ Serves (now t) ⌝ }
+    ensures { λ r. ⌜ Does (now (t .entry)) (now (t .exit)) r (λ s. doSuspend s i) ⌝ }
 {
     let th = records::thread_at(t, i);
     if !th.used {
@@ -96,8 +94,8 @@ pub fn suspend(t: &mut [u8], i: u8) -> Answer
 
 // Refused in the order −1, −4.
 pub fn resume(t: &mut [u8], i: u8) -> Answer
-    requires { ⌜ Serves printer (now t) ⌝ }
-    ensures { λ r. ⌜ Does printer (now (t .entry)) (now (t .exit)) r (λ s. doResume s i) ⌝ }
+    requires { ⌜ Serves (now t) ⌝ }
+    ensures { λ r. ⌜ Does (now (t .entry)) (now (t .exit)) r (λ s. doResume s i) ⌝ }
 {
     let th = records::thread_at(t, i);
     if !th.used {
@@ -118,8 +116,8 @@ pub fn resume(t: &mut [u8], i: u8) -> Answer
 
 // Refused in the order −3, −5.
 pub fn delay(t: &mut [u8], n: u32) -> Answer
-    requires { ⌜ Serves printer (now t) ⌝ }
-    ensures { λ r. ⌜ Does printer (now (t .entry)) (now (t .exit)) r (λ s. doDelay s n) ⌝ }
+    requires { ⌜ Serves (now t) ⌝ }
+    ensures { λ r. ⌜ Does (now (t .entry)) (now (t .exit)) r (λ s. doDelay s n) ⌝ }
 {
     if refusals::bad_ticks(n) {
         return refused::BAD_TICKS;
@@ -132,8 +130,8 @@ pub fn delay(t: &mut [u8], n: u32) -> Answer
 
 // A delay is broken off.
 pub fn cancel(t: &mut [u8], i: u8) -> Answer
-    requires { ⌜ Serves printer (now t) ⌝ }
-    ensures { λ r. ⌜ Does printer (now (t .entry)) (now (t .exit)) r (λ s. doCancel s i) ⌝ }
+    requires { ⌜ Serves (now t) ⌝ }
+    ensures { λ r. ⌜ Does (now (t .entry)) (now (t .exit)) r (λ s. doCancel s i) ⌝ }
 {
     let th = records::thread_at(t, i);
     let w = th.wait;
@@ -152,8 +150,8 @@ fn changes_line(th: Thread, priority: u8) -> bool
 
 // Refused in the order −2, −1, −5.
 pub fn set_priority(t: &mut [u8], i: u8, priority: u8) -> Answer
-    requires { ⌜ Serves printer (now t) ⌝ }
-    ensures { λ r. ⌜ Does printer (now (t .entry)) (now (t .exit)) r (λ s. doSetPriority s i priority) ⌝ }
+    requires { ⌜ Serves (now t) ⌝ }
+    ensures { λ r. ⌜ Does (now (t .entry)) (now (t .exit)) r (λ s. doSetPriority s i priority) ⌝ }
 {
     if priority > TOP_PRIORITY {
         return refused::BAD_PRIORITY;
@@ -176,8 +174,8 @@ pub fn set_priority(t: &mut [u8], i: u8, priority: u8) -> Answer
 
 // Refused in the order −3, −1, −5.
 pub fn set_turn(t: &mut [u8], i: u8, turn: u32) -> Answer
-    requires { ⌜ Serves printer (now t) ⌝ }
-    ensures { λ r. ⌜ Does printer (now (t .entry)) (now (t .exit)) r (λ s. doSetTurn s i turn) ⌝ }
+    requires { ⌜ Serves (now t) ⌝ }
+    ensures { λ r. ⌜ Does (now (t .entry)) (now (t .exit)) r (λ s. doSetTurn s i turn) ⌝ }
 {
     if refusals::bad_ticks(turn) {
         return refused::BAD_TICKS;

@@ -1,10 +1,8 @@
 // Tests behind the refusals of operations on threads.
 ghost use mathlib.Core.Path.{_≡_};
-ghost use lib.ListN.{length};
-ghost use Rattle.rules.specs.Board.{printer, tableLength};
 ghost use Rattle.rules.specs.State.{State};
-ghost use Rattle.rules.specs.Table.{decode};
 ghost use Rattle.rules.specs.Threads.{badTicks, bound};
+ghost use Rattle.layout.specs.Held.{Long, said};
 use rules::MOST_TICKS;
 
 // "Turn or delay 0 or above 99,999."
@@ -19,8 +17,8 @@ pub fn bad_ticks(n: u32) -> bool
 
 // "Init, or the running thread under lock."
 pub fn is_bound(t: &[u8], i: u8) -> bool
-    requires { ⌜ length (now t) ≡ tableLength printer ⌝ }
-    ensures { λ r. ⌜ ((s : State) → decode printer (now (t .entry)) ≡ s → r ≡ bound s i) ⌝ }
+    requires { ⌜ Long (now t) ⌝ }
+    ensures { λ r. ⌜ ((s : State) → said (now (t .entry)) ≡ s → r ≡ bound s i) ⌝ }
 {
     if i == 0 {
         return true;

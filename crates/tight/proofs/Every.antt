@@ -2,9 +2,9 @@
 -- is that of one line; a text that is put somewhere is put there. Assumes nothing.
 use mathlib.Core.Path.{_≡_, refl, ap, sym, _∙_}
 use native.Mathlib.Omega.{arith}
-use Rattle.rules.specs.Board.{printer}
-use Rattle.rules.specs.Table.{decode}
+use Rattle.laws.proofs.Split.{pass-together}
 use Rattle.laws.proofs.Word.{power-low}
+use Rattle.layout.specs.Held.{said}
 use Rattle.layout.proofs.Held.{whole-holds, becomes-one, whole-laid, laid-shows, changes-one}
 use Rattle.marks.proofs.Numbered.{numbered}
 use Rattle.waiting.proofs.Doing.{does-one}
@@ -17,6 +17,12 @@ first {y} e = λ j. (e j, y)
 
 pub each : Each
 each = record {
+  -- boards
+  boards-is-long = λ κs a z z′ ws ws′ h p q. (pass-together _ _ (λ e. q .1 (p .0 e), λ e. p .1 (q .0 e)), refl);
+  boards-kernel-from = λ κs a z z′ ws ws′ h p q. (p .0 ∙ sym (q .0), refl);
+  boards-semaphore-from = λ κs a z z′ ws ws′ h p q. (p .0 ∙ sym (q .0), refl);
+  boards-semaphores = λ κs a z z′ ws ws′ h p q. (omega (arith, p, q), refl);
+  boards-threads = λ κs a z z′ ws ws′ h p q. (omega (arith, p .0, q .0), refl);
   -- words
   words-long-at = λ κs a z z′ ws ws′ h p q. (p ∙ sym q, refl);
   words-put-word = λ κs a z z′ ws ws′ h p q. (refl, first (p ∙ sym q));
@@ -59,7 +65,7 @@ each = record {
   marks-waiters-line = λ κs a z z′ ws ws′ h p q. (p ∙ sym q, refl);
   -- lines
   lines-fill = λ κs a z z′ ws ws′ h p q. (refl, first (becomes-one (h .1) p q));
-  lines-first-of = λ κs a z z′ ws ws′ h p q. let l = numbered (a .1 .0) in (p .1 _ (l .0) refl (l .1) ∙ sym (q .1 _ (l .0) refl (l .1)), refl);
+  lines-first-of = λ κs a z z′ ws ws′ h p q. let l = numbered (a .1 .0) in (p _ (l .0) refl (l .1) ∙ sym (q _ (l .0) refl (l .1)), refl);
   lines-in-rank = λ κs a z z′ ws ws′ h p q. (p ∙ sym q, refl);
   lines-is-ready = λ κs a z z′ ws ws′ h p q. (p ∙ sym q, refl);
   lines-join = λ κs a z z′ ws ws′ h p q. (p .0 _ refl ∙ sym (q .0 _ refl), first (becomes-one (h .1) (p .1) (q .1)));
@@ -69,7 +75,7 @@ each = record {
   -- ready
   ready-free-thread = λ κs a z z′ ws ws′ h p q. (refl, first (becomes-one (h .1) p q));
   ready-highest = λ κs a z z′ ws ws′ h p q. (omega (arith, power-low _ _ _ (p .1) (q .2), power-low _ _ _ (q .1) (p .2)), refl);
-  ready-leave = λ κs a z z′ ws ws′ h p q. let e = becomes-one (h .1) (p .1) (q .1) in (p .0 _ refl ∙ sym (q .0 _ (ap (decode printer) (sym e))), first e);
+  ready-leave = λ κs a z z′ ws ws′ h p q. let e = becomes-one (h .1) (p .1) (q .1) in (p .0 _ refl ∙ sym (q .0 _ (ap said (sym e))), first e);
   ready-ready-bit = λ κs a z z′ ws ws′ h p q. (p ∙ sym q, refl);
   ready-set-priority = λ κs a z z′ ws ws′ h p q. (refl, first (becomes-one (h .1) p q));
   ready-set-stopped = λ κs a z z′ ws ws′ h p q. (refl, first (becomes-one (h .1) p q));

@@ -1,4 +1,5 @@
 -- Every public function's own promise is tight: a field for each. The three functions over the trace reader stand in `Readers.antt`.
+use Rattle.boards.proofs as boards
 use Rattle.words.proofs as words
 use Rattle.records.proofs as records
 use Rattle.marks.proofs as marks
@@ -26,6 +27,12 @@ use Rattle.lags.proofs as lags
 use Rattle.tight.specs.Promise.{Determines}
 
 pub record Each : Type 1 where
+  -- boards
+  pub boards-is-long : Determines boards.is_long.Kinds.ps boards.is_long.Kinds.r boards.is_long.Reads.Pre boards.is_long.Reads.Post
+  pub boards-kernel-from : Determines boards.kernel_from.Kinds.ps boards.kernel_from.Kinds.r boards.kernel_from.Reads.Pre boards.kernel_from.Reads.Post
+  pub boards-semaphore-from : Determines boards.semaphore_from.Kinds.ps boards.semaphore_from.Kinds.r boards.semaphore_from.Reads.Pre boards.semaphore_from.Reads.Post
+  pub boards-semaphores : Determines boards.semaphores.Kinds.ps boards.semaphores.Kinds.r boards.semaphores.Reads.Pre boards.semaphores.Reads.Post
+  pub boards-threads : Determines boards.threads.Kinds.ps boards.threads.Kinds.r boards.threads.Reads.Pre boards.threads.Reads.Post
   -- words
   pub words-long-at : Determines words.long_at.Kinds.ps words.long_at.Kinds.r words.long_at.Reads.Pre words.long_at.Reads.Post
   pub words-put-word : Determines words.put_word.Kinds.ps words.put_word.Kinds.r words.put_word.Reads.Pre words.put_word.Reads.Post

@@ -1,23 +1,22 @@
 // The scheduler lock, the tick, and Outcome.
 ghost use mathlib.Core.Path.{_≡_};
-ghost use Prim.Native.Nat.{_<_};
-ghost use Rattle.rules.specs.Board.{printer};
 ghost use Rattle.rules.specs.State.{withThreads};
 ghost use Rattle.rules.specs.Time.{doLock, doUnlock, charge, charged, timedOut, countDown, timeouts, doTick, outcomeAnswer, doOutcome};
+ghost use Rattle.layout.specs.Boards.{HasThread};
 ghost use Rattle.layout.specs.Held.{Whole, Becomes, onThreads};
 ghost use Rattle.waiting.specs.Does.{Serves, Does};
+ghost use lib.ListN.{length};
 use rules::Answer;
 use rules::MOST_LOCK;
 use rules::Outcome;
-use rules::THREADS;
 use rules::Wait;
 use rules::refused;
 
 // THE LOCK
 
 pub fn lock(t: &mut [u8]) -> Answer
-    requires { ⌜ Serves printer (now t) ⌝ }
-    ensures { λ r. ⌜ Does printer (now (t .entry)) (now (t .exit)) r doLock ⌝ }
+    requires { ⌜ Serves (now t) ⌝ }
+    ensures { λ r. ⌜ Does (now (t .entry)) (now (t .exit)) r doLock ⌝ }
 {
     let n = records::lock(t);
     if n >= MOST_LOCK {
@@ -28,8 +27,8 @@ pub fn lock(t: &mut [u8]) -> Answer
 }
 
 pub fn unlock(t: &mut [u8]) -> Answer
-    requires { ⌜ Serves printer (now t) ⌝ }
-    ensures { λ r. ⌜ Does printer (now (t .entry)) (now (t .exit)) r doUnlock ⌝ }
+    requires { ⌜ Serves (now t) ⌝ }
+    ensures { λ r. ⌜ Does (now (t .entry)) (now (t .exit)) r doUnlock ⌝ }
 {
     let n = records::lock(t);
     if n == 0 {
@@ -43,8 +42,8 @@ pub fn unlock(t: &mut [u8]) -> Answer
 
 // Thread `r`, which runs, is charged: its counter less 1 and, if that gives 0, the tail of its line with a full counter.
 fn charge(t: &mut [u8], r: usize)
-    requires { ⌜ (r < printer .threads) × Whole printer (now t) ⌝ }
-    ensures { λ _. ⌜ Becomes printer (now (t .entry)) (now (t .exit)) (onThreads (charge r)) ⌝ }
+    requires { ⌜ HasThread (now t) r × Whole (now t) ⌝ }
+    ensures { λ _. ⌜ Becomes (now (t .entry)) (now (t .exit)) (onThreads (charge r)) ⌝ }
 {
     let th = records::load_thread(t, r);
     let w = th.wait;
@@ -58,8 +57,8 @@ fn charge(t: &mut [u8], r: usize)
 
 // With lock 0 the running thread is charged.
 fn charged(t: &mut [u8])
-    requires { ⌜ Serves printer (now t) ⌝ }
-    ensures { λ _. ⌜ Becomes printer (now (t .entry)) (now (t .exit)) (λ s. withThreads (charged s) s) ⌝ }
+    requires { ⌜ Serves (now t) ⌝ }
+    ensures { λ _. ⌜ Becomes (now (t .entry)) (now (t .exit)) (λ s. withThreads (charged s) s) ⌝ }
 {
     if records::lock(t) > 0 {
         return;
@@ -83,8 +82,8 @@ fn timed_out(w: Wait) -> Outcome
 
 // The wait of thread `i` counts down, if it has a counter above 0, and at 0 ends.
 fn count_down(t: &mut [u8], i: usize)
-    requires { ⌜ (i < printer .threads) × Whole printer (now t) ⌝ }
-    ensures { λ _. ⌜ Becomes printer (now (t .entry)) (now (t .exit)) (onThreads (countDown i)) ⌝ }
+    requires { ⌜ HasThread (now t) i × Whole (now t) ⌝ }
+    ensures { λ _. ⌜ Becomes (now (t .entry)) (now (t .exit)) (onThreads (countDown i)) ⌝ }
 {
     let th = records::load_thread(t, i);
     let w = th.wait;
@@ -104,17 +103,18 @@ fn count_down(t: &mut [u8], i: usize)
 
 // Every wait counts down, by thread number.
 fn timeouts(t: &mut [u8])
-    requires { ⌜ Whole printer (now t) ⌝ }
-    ensures { λ _. ⌜ Becomes printer (now (t .entry)) (now (t .exit)) (onThreads (timeouts (printer .threads))) ⌝ }
+    requires { ⌜ Whole (now t) ⌝ }
+    ensures { λ _. ⌜ Becomes (now (t .entry)) (now (t .exit)) (onThreads (λ ts. timeouts (length ts) ts)) ⌝ }
 {
-    for i in 0..THREADS {
+    let threads = boards::threads(t);
+    for i in 0..threads {
         count_down(t, i);
     }
 }
 
 pub fn tick(t: &mut [u8]) -> Answer
-    requires { ⌜ Serves printer (now t) ⌝ }
-    ensures { λ r. ⌜ Does printer (now (t .entry)) (now (t .exit)) r doTick ⌝ }
+    requires { ⌜ Serves (now t) ⌝ }
+    ensures { λ r. ⌜ Does (now (t .entry)) (now (t .exit)) r doTick ⌝ }
 {
     charged(t);
     timeouts(t);
@@ -135,8 +135,8 @@ fn outcome_answer(outcome: Outcome, parcel: u32) -> Answer
 }
 
 pub fn outcome(t: &[u8], i: u8) -> Answer
-    requires { ⌜ Serves printer (now t) ⌝ }
-    ensures { λ r. ⌜ Does printer (now (t .entry)) (now (t .entry)) r (λ s. doOutcome s i) ⌝ }
+    requires { ⌜ Serves (now t) ⌝ }
+    ensures { λ r. ⌜ Does (now (t .entry)) (now (t .entry)) r (λ s. doOutcome s i) ⌝ }
 {
     let th = records::thread_at(t, i);
     if !th.used {

@@ -2,22 +2,21 @@
 -- and the answer is the rule's.
 use mathlib.Core.Path.{_≡_}
 use mathlib.Core.List.{List}
-use Prim.Native.Nat.{ℕ, _<_}
-use Rattle.rules.specs.Board.{Board}
+use Prim.Native.Nat.{ℕ}
 use Rattle.rules.specs.State.{State}
-use Rattle.rules.specs.Table.{decode}
 use Rattle.rules.specs.Sound.{Sound}
 use Rattle.rules.specs.Waiting.{Step}
 use Rattle.rules.specs.declared.Answer.{Answer}
-use Rattle.layout.specs.Held.{Holds, Whole}
+use Rattle.layout.specs.Boards.{HasThread}
+use Rattle.layout.specs.Held.{said, Holds, Whole}
 
 -- a sound table: what an operation asks for
-pub record Serves (b : Board) (t : List ℕ) : Type 0 where
-  pub whole : Whole b t
-  pub runs : decode b t .running < b .threads
-  pub sound : Sound (decode b t)
+pub record Serves (t : List ℕ) : Type 0 where
+  pub whole : Whole t
+  pub runs : HasThread t (said t .running)
+  pub sound : Sound (said t)
 
-pub record Does (b : Board) (before after : List ℕ) (given : Answer) (rule : State → Step) : Type 0 where
-  pub whole : Whole b after
-  pub holds : (s : State) → Holds b before s → Holds b after (rule s .state)
-  pub answer : (s : State) → Holds b before s → given ≡ rule s .answer
+pub record Does (before after : List ℕ) (given : Answer) (rule : State → Step) : Type 0 where
+  pub whole : Whole after
+  pub holds : (s : State) → Holds before s → Holds after (rule s .state)
+  pub answer : (s : State) → Holds before s → given ≡ rule s .answer

@@ -4,22 +4,19 @@
 // rule, and that the answer is the rule's too.
 ghost use mathlib.Core.Bool.{true};
 ghost use mathlib.Core.Path.{_≡_};
-ghost use Prim.Native.Nat.{ℕ, pred, _<_};
-ghost use lib.ListN.{length};
-ghost use Rattle.rules.specs.Board.{printer, tableLength};
+ghost use Prim.Native.Nat.{ℕ, pred};
 ghost use Rattle.rules.specs.State.{State, at, waiting, withWait, withOutcome};
-ghost use Rattle.rules.specs.Table.{decode};
 ghost use Rattle.rules.specs.Lines.{Line, move};
 ghost use Rattle.rules.specs.Waiting.{accept, endWait, serve, block, mayNotWait, waitCounter, mustWait};
 ghost use Rattle.rules.specs.Threads.{noThread, breakOff};
 ghost use Rattle.rules.specs.declared.Wait.{Wait};
-ghost use Rattle.layout.specs.Held.{Whole, Becomes, onThreads};
+ghost use Rattle.layout.specs.Boards.{HasThread};
+ghost use Rattle.layout.specs.Held.{Long, said, Whole, Becomes, onThreads};
 ghost use Rattle.marks.specs.Numbers.{lineNumber};
 ghost use Rattle.waiting.specs.Does.{Serves, Does};
 use rules::Answer;
 use rules::MOST_TICKS;
 use rules::Outcome;
-use rules::THREADS;
 use rules::Wait;
 use rules::refused;
 
@@ -27,8 +24,8 @@ use rules::refused;
 
 // A step that is accepted: the thread that then runs is settled, and the answer is `value`.
 pub fn accept(t: &mut [u8], value: u32) -> Answer
-    requires { ⌜ Whole printer (now t) ⌝ }
-    ensures { λ r. ⌜ Does printer (now (t .entry)) (now (t .exit)) r (λ s. accept s value) ⌝ }
+    requires { ⌜ Whole (now t) ⌝ }
+    ensures { λ r. ⌜ Does (now (t .entry)) (now (t .exit)) r (λ s. accept s value) ⌝ }
 {
     ready::settle(t);
     Answer::Done { value }
@@ -39,9 +36,9 @@ pub fn accept(t: &mut [u8], value: u32) -> Answer
 // Thread `i` leaves its line, its wait becomes `w` with that outcome and parcel, and it joins the line that it then belongs to. The place
 // that it has there is given back.
 fn change_wait(t: &mut [u8], i: usize, w: Wait, outcome: Outcome, parcel: u32) -> u8
-    requires { ⌜ (i < printer .threads) × Whole printer (now t) ⌝ }
-    ensures place { λ r. ⌜ ((s : State) → decode printer (now (t .exit)) ≡ s → r ≡ at (s .threads) i .place) ⌝ }
-    ensures table { λ _. ⌜ Becomes printer (now (t .entry)) (now (t .exit)) (onThreads (move i (λ x. withOutcome outcome parcel (withWait w x)))) ⌝ }
+    requires { ⌜ HasThread (now t) i × Whole (now t) ⌝ }
+    ensures place { λ r. ⌜ ((s : State) → said (now (t .exit)) ≡ s → r ≡ at (s .threads) i .place) ⌝ }
+    ensures table { λ _. ⌜ Becomes (now (t .entry)) (now (t .exit)) (onThreads (move i (λ x. withOutcome outcome parcel (withWait w x)))) ⌝ }
 {
     let left = ready::leave(t, i);
     ready::set_wait(t, i, w, left);
@@ -51,27 +48,27 @@ fn change_wait(t: &mut [u8], i: usize, w: Wait, outcome: Outcome, parcel: u32) -
 
 // The wait of thread `i` ends: it leaves its line, and enters its ready line if it is not suspended.
 pub fn end_wait(t: &mut [u8], i: usize, outcome: Outcome, parcel: u32)
-    requires { ⌜ (i < printer .threads) × Whole printer (now t) ⌝ }
-    ensures { λ _. ⌜ Becomes printer (now (t .entry)) (now (t .exit)) (onThreads (endWait i outcome parcel)) ⌝ }
+    requires { ⌜ HasThread (now t) i × Whole (now t) ⌝ }
+    ensures { λ _. ⌜ Becomes (now (t .entry)) (now (t .exit)) (onThreads (endWait i outcome parcel)) ⌝ }
 {
     change_wait(t, i, Wait::Nothing { counter: 0 }, outcome, parcel);
 }
 
 // The first of a line is served: its wait ends. Where the line has no first, nothing is done.
 fn serve_first(t: &mut [u8], line: u16, outcome: Outcome)
-    requires { ⌜ Whole printer (now t) ⌝ }
-    ensures { λ _. ⌜ Whole printer (now (t .exit)) × ((l : Line) → line ≡ lineNumber l → Becomes printer (now (t .entry)) (now (t .exit)) (onThreads (serve 1 l outcome))) ⌝ }
+    requires { ⌜ Whole (now t) ⌝ }
+    ensures { λ _. ⌜ Whole (now (t .exit)) × ((l : Line) → line ≡ lineNumber l → Becomes (now (t .entry)) (now (t .exit)) (onThreads (serve 1 l outcome))) ⌝ }
 {
     let i = lines::first_of(t, line);
-    if i < THREADS {
+    if i < boards::threads(t) {
         end_wait(t, i, outcome, 0);
     }
 }
 
 // The first `n` threads of a line are served, in line order.
 pub fn serve(t: &mut [u8], n: u8, line: u16, outcome: Outcome)
-    requires { ⌜ Whole printer (now t) ⌝ }
-    ensures { λ _. ⌜ ((l : Line) → line ≡ lineNumber l → Becomes printer (now (t .entry)) (now (t .exit)) (onThreads (serve n l outcome))) ⌝ }
+    requires { ⌜ Whole (now t) ⌝ }
+    ensures { λ _. ⌜ ((l : Line) → line ≡ lineNumber l → Becomes (now (t .entry)) (now (t .exit)) (onThreads (serve n l outcome))) ⌝ }
 {
     for k in 0..n {
         serve_first(t, line, outcome);
@@ -82,8 +79,8 @@ pub fn serve(t: &mut [u8], n: u8, line: u16, outcome: Outcome)
 
 // "Thread number above 15, or free."
 pub fn no_thread(t: &[u8], i: u8) -> bool
-    requires { ⌜ length (now t) ≡ tableLength printer ⌝ }
-    ensures { λ r. ⌜ ((s : State) → decode printer (now (t .entry)) ≡ s → r ≡ noThread s i) ⌝ }
+    requires { ⌜ Long (now t) ⌝ }
+    ensures { λ r. ⌜ ((s : State) → said (now (t .entry)) ≡ s → r ≡ noThread s i) ⌝ }
 {
     let th = records::thread_at(t, i);
     !th.used
@@ -91,8 +88,8 @@ pub fn no_thread(t: &[u8], i: u8) -> bool
 
 // The wait of thread `i` ends with −5, where `named` says whether it is of the kind that the operation names. Refused in the order −1, −4.
 pub fn break_off(t: &mut [u8], i: u8, named: bool) -> Answer
-    requires { ⌜ Serves printer (now t) ⌝ }
-    ensures { λ r. ⌜ Does printer (now (t .entry)) (now (t .exit)) r (λ s. breakOff (λ w. named) s i) ⌝ }
+    requires { ⌜ Serves (now t) ⌝ }
+    ensures { λ r. ⌜ Does (now (t .entry)) (now (t .exit)) r (λ s. breakOff (λ w. named) s i) ⌝ }
 {
     if no_thread(t, i) {
         return refused::BAD_THREAD;
@@ -108,8 +105,8 @@ pub fn break_off(t: &mut [u8], i: u8, named: bool) -> Answer
 
 // "The caller is Init or the lock is on."
 pub fn may_not_wait(t: &[u8]) -> bool
-    requires { ⌜ length (now t) ≡ tableLength printer ⌝ }
-    ensures { λ r. ⌜ ((s : State) → decode printer (now (t .entry)) ≡ s → r ≡ mayNotWait s) ⌝ }
+    requires { ⌜ Long (now t) ⌝ }
+    ensures { λ r. ⌜ ((s : State) → said (now (t .entry)) ≡ s → r ≡ mayNotWait s) ⌝ }
 {
     if records::running(t) == 0 {
         return true;
@@ -126,8 +123,8 @@ fn ahead_of(place: u8) -> u32
 
 // The caller waits: it leaves its ready line and joins the tail of its wait's line. The answer says how many are ahead of it there.
 pub fn block(t: &mut [u8], w: Wait, parcel: u32) -> Answer
-    requires { ⌜ (waiting w ≡ true) × Serves printer (now t) ⌝ }
-    ensures { λ r. ⌜ Does printer (now (t .entry)) (now (t .exit)) r (λ s. block s w parcel) ⌝ }
+    requires { ⌜ (waiting w ≡ true) × Serves (now t) ⌝ }
+    ensures { λ r. ⌜ Does (now (t .entry)) (now (t .exit)) r (λ s. block s w parcel) ⌝ }
 {
     let i = records::running(t);
     let place = change_wait(t, i, w, Outcome::NoneYet, parcel);
@@ -145,8 +142,8 @@ pub fn wait_counter(n: u32) -> u32
 
 // A call that must wait by wait number `n`: `w` is the wait, with the counter that the number leaves.
 pub fn must_wait(t: &mut [u8], n: u32, w: Wait, parcel: u32) -> Answer
-    requires { ⌜ (waiting w ≡ true) × Serves printer (now t) ⌝ }
-    ensures { λ r. ⌜ ((kind : ℕ → Wait) → w ≡ kind (waitCounter n) → Does printer (now (t .entry)) (now (t .exit)) r (λ s. mustWait s n kind parcel)) ⌝ }
+    requires { ⌜ (waiting w ≡ true) × Serves (now t) ⌝ }
+    ensures { λ r. ⌜ ((kind : ℕ → Wait) → w ≡ kind (waitCounter n) → Does (now (t .entry)) (now (t .exit)) r (λ s. mustWait s n kind parcel)) ⌝ }
 {
     if n == 0 {
         return refused::BAD_OPERATION;

@@ -1,5 +1,5 @@
 -- `accounts::serve_request` meets its contract: what is entered is what the event charges and creates. Assumes nothing.
-use mathlib.Core.Path.{_≡_, refl, sym, ap, _∙_}
+use mathlib.Core.Path.{_≡_, sym, ap, _∙_}
 use borrow.Author.Needs.{needs}
 use borrow.Author.Tests.{not-true, not-false}
 use denote.Ref.{now}
@@ -8,6 +8,7 @@ use Rattle.rules.specs.Board.{printer}
 use Rattle.rules.specs.Requests.{requestLength, decodeRequest}
 use Rattle.rules.specs.Trace.{cleanArea}
 use Rattle.rules.specs.declared.Decoded.the-variants.{Asked}
+use Rattle.layout.proofs.Boards.{printer-long, said-printer}
 use Rattle.fairness.specs.Run.{other, deedOf, deed, atOnce}
 use Rattle.accounts.specs.Accounts.{entered}
 use Rattle.accounts.proofs.Accepted.{finds}
@@ -16,10 +17,10 @@ use Rattle.accounts.proofs.serve_request.Statement.{statement}
 use Rattle.accounts.proofs.serve_request.Tie as tie
 
 running-requires : tie.Need-running-requires
-running-requires c κs = search needs
+running-requires c κs = printer-long (c .before .before .before .before .pre .0)
 
 lock-requires : tie.Need-lock-requires
-lock-requires c κs = search needs
+lock-requires c κs = printer-long (c .before .before .before .before .before .before .pre .0)
 
 serve-one-requires : tie.Need-serve-one-requires
 serve-one-requires c κs = search needs
@@ -65,7 +66,7 @@ enter-requires c κs =
     let accepts = sym (served .ensures .0) ∙ not-false (served .result) (c .before .before .before .before .if1 .left) in
     let q = c .before .before .decoded .given .0 .0 in
     let asks : decodeRequest r ≡ Asked q = sym (start .pre .1 .1 .1) ∙ c .before .before .decoded .given .1 in
-    (rw (start .pre .1 .0 .0, c .before .before .before .before .before .before .before .before .before .before .before .running .ensures _ refl) (finds printer t r cleanArea q asks accepts), start .pre .1 .0 .1)
+    (rw (start .pre .1 .0 .0, c .before .before .before .before .before .before .before .before .before .before .before .running .ensures _ (said-printer _ (start .pre .0))) (finds printer t r cleanArea q asks accepts), start .pre .1 .0 .1)
 
 same-length-3 : tie.Need-same-length-3
 same-length-3 c = search needs
@@ -84,8 +85,8 @@ returns-3 c =
     let none : atOnce (deed (decodeRequest r)) ≡ 0 = ap (λ x. atOnce (deed x)) (sym (start .pre .1 .1 .1)) ∙ start .pre .1 .1 .2 in
     let q = c .before .before .before .before .before .decoded .given .0 .0 in
     let asks : deed (decodeRequest r) ≡ deedOf q = ap deed (sym (start .pre .1 .1 .1) ∙ c .before .before .before .before .before .decoded .given .1) in
-    let ran = c .before .before .before .before .before .before .before .before .before .before .before .before .before .before .running .ensures _ refl in
-    let lock = c .before .before .before .before .before .before .before .before .before .before .before .before .lock .ensures _ refl in
+    let ran = c .before .before .before .before .before .before .before .before .before .before .before .before .before .before .running .ensures _ (said-printer _ (start .pre .0)) in
+    let lock = c .before .before .before .before .before .before .before .before .before .before .before .before .lock .ensures _ (said-printer _ (start .pre .0)) in
     (served .ensures .1, c .before .before .enter .ensures ∙ (λ j. entered ns (deedOf q) (ran j) (lock j)) ∙ awake-record t r ns accepts none (deedOf q) asks)
 
 pub serve-request-spec : {M : Type 1} → statement M

@@ -1,14 +1,18 @@
 -- `accounts::serve_ticks` meets its contract: an accepted operation 21 counts as its ticks, and these are entered from the table that it found.
 -- Assumes nothing.
 use mathlib.Core.Path.{sym, ap, subst, _∙_}
+use mathlib.Core.List.{List}
+use Prim.Native.Nat.{ℕ}
 use native.Mathlib.Omega.{arith}
 use borrow.Author.Needs.{needs}
 use denote.Ref.{now}
-use lib.ListN.{take, drop}
+use lib.ListN.{length, take, drop}
 use Rattle.rules.specs.Board.{printer}
-use Rattle.rules.specs.Table.{decode}
+use Rattle.rules.specs.Table.{encode, decode}
 use Rattle.rules.specs.Requests.{requestLength}
+use Rattle.rules.specs.Sound.{SoundTable}
 use Rattle.rules.specs.Trace.{cleanArea, cleanly}
+use Rattle.layout.proofs.Boards.{printer-long, said-printer}
 use Rattle.waiting.specs.Does.{Serves}
 use Rattle.waiting.proofs.Doing.{serves}
 use Rattle.leaps.specs.Charges.{tickEvents}
@@ -18,6 +22,12 @@ use Rattle.accounts.proofs.Counted.{asleep-most}
 use Rattle.accounts.proofs.Served.{refused-record, asleep-record}
 use Rattle.accounts.proofs.serve_ticks.Statement.{statement}
 use Rattle.accounts.proofs.serve_ticks.Tie as tie
+
+-- a sound table can be served
+can-be-served : {t : List ℕ} → SoundTable printer t → Serves t
+can-be-served {t} σ =
+    let says = said-printer t (σ .long) in
+    serves (record { long = printer-long (σ .long); meaning = σ .meaning ∙ ap encode (sym says) }) (rw says (σ .state))
 
 copy-of-requires : tie.Need-copy-of-requires
 copy-of-requires c κs = search needs
@@ -35,9 +45,10 @@ enter-ticks-requires c κs =
     let t = now (start .args .table) in
     let r = take requestLength (drop (start .args .at) (now (start .args .input))) in
     let accepts = sym (served .ensures .0) ∙ c .before .before .if1 .taken in
+    let copied = c .before .before .before .before .before .before .before .copy-of .ensures in
     let σ = on-sound printer t r cleanArea accepts .0 in
     let most = asleep-most printer t (cleanly r) (start .args .n) (start .pre .1 .1 .1) accepts in (
-      subst (Serves printer) (sym (c .before .before .before .before .before .before .before .copy-of .ensures)) (serves (record { long = σ .long; meaning = σ .meaning }) (σ .state)),
+      (ap length copied ∙ start .pre .0, subst Serves (sym copied) (can-be-served σ)),
       (start .pre .1 .0 .0, λ i. omega (arith, most, start .pre .1 .0 .1 i)),
     )
 

@@ -3,14 +3,12 @@ use mathlib.Core.Bool.{Bool, true, false, not, _&&_}
 use mathlib.Core.Path.{_≡_, sym, ap, _∙_}
 use mathlib.Core.List.{List}
 use Prim.Native.Nat.{ℕ}
-use lib.Dec.{eqb}
-use lib.ListN.{length}
 use mir.Syntax.{w32}
 use mir.ValLaws.{toZ-ofZ}
 use borrow.Author.Tests.{eqb-true, not-true, not-false}
 use borrow.Author.Needs.{needs}
-use Rattle.rules.specs.Board.{printer}
-use Rattle.rules.specs.Table.{decode}
+use lib.Dec.{eqb}
+use lib.ListN.{length}
 use Rattle.rules.specs.Answers.{areaLength}
 use Rattle.rules.specs.Test.{soundTable}
 use Rattle.rules.specs.Steps.{step}
@@ -22,23 +20,25 @@ use Rattle.waiting.specs.Does.{Serves, Does}
 use Rattle.waiting.proofs.Doing.{serves}
 use Rattle.laws.proofs.Split.{and-true}
 use Rattle.laws.proofs.Tested.{tested-table}
+use Rattle.layout.specs.Held.{board, said}
 use Rattle.layout.proofs.Held.{whole-holds}
 use Rattle.kernel.proofs.speltmallet_door.Statement.{statement}
 use Rattle.kernel.proofs.speltmallet_door.Tie as tie
 
 -- a sound table can be served
-can-be-served : (t : List ℕ) → soundTable printer t ≡ true → Serves printer t
-can-be-served t e = let h = tested-table printer t .0 e in serves (record { long = h .long; meaning = h .meaning }) (h .state)
+can-be-served : (t : List ℕ) → soundTable (board t) t ≡ true → Serves t
+unfolding said
+can-be-served t e = let h = tested-table (board t) t .0 e in serves (record { long = record { fits = h .long }; meaning = h .meaning }) (h .state)
 
 -- what a step makes of it and answers is what the door says
-served : (t : List ℕ) (q : Request) {t′ : List ℕ} {a : Answer} → soundTable printer t ≡ true → Does printer t t′ a (λ s. step s q) → answered t′ a ≡ serveDecoded printer t (Asked q)
-unfolding serveDecoded
-served t q e d = let h = whole-holds (can-be-served t e .whole) in λ j. answered (d .holds (decode printer t) h .bytes j) (d .answer (decode printer t) h j)
+served : (t : List ℕ) (q : Request) {t′ : List ℕ} {a : Answer} → soundTable (board t) t ≡ true → Does t t′ a (λ s. step s q) → answered t′ a ≡ serveDecoded (board t) t (Asked q)
+unfolding serveDecoded said
+served t q e d = let h = whole-holds (can-be-served t e .whole) in λ j. answered (d .holds (said t) h .bytes j) (d .answer (said t) h j)
 
 -- a call that can be served has an area of 8 bytes and a sound table
-servable : (t a : List ℕ) {r : Bool} → r ≡ (eqb (length a) areaLength && soundTable printer t) → not r ≡ false → (length a ≡ areaLength) × (soundTable printer t ≡ true)
+servable : (t a : List ℕ) {r : Bool} → r ≡ (eqb (length a) areaLength && soundTable (board t) t) → not r ≡ false → (length a ≡ areaLength) × (soundTable (board t) t ≡ true)
 servable t a {r} p e =
-    let both = and-true (eqb (length a) areaLength) (soundTable printer t) (sym p ∙ not-false r e) in (eqb-true (length a) areaLength (both .0), both .1)
+    let both = and-true (eqb (length a) areaLength) (soundTable (board t) t) (sym p ∙ not-false r e) in (eqb-true (length a) areaLength (both .0), both .1)
 
 can-serve-requires : tie.Need-can-serve-requires
 can-serve-requires c κs = search needs

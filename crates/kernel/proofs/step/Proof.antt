@@ -4,7 +4,6 @@ use mathlib.Core.Path.{_≡_, ap}
 use mathlib.Core.List.{List}
 use Prim.Native.Nat.{ℕ}
 use borrow.Author.Needs.{needs}
-use Rattle.rules.specs.Board.{printer}
 use Rattle.rules.specs.Steps.{step}
 use Rattle.rules.specs.declared.Request.{Request}
 use Rattle.rules.specs.declared.Answer.{Answer}
@@ -13,7 +12,7 @@ use Rattle.waiting.proofs.Doing.{does-as}
 use Rattle.kernel.proofs.step.Statement.{statement}
 use Rattle.kernel.proofs.step.Tie as tie
 
-arm : {t t′ : List ℕ} {a : Answer} {asked told : Request} → asked ≡ told → Does printer t t′ a (λ s. step s told) → Does printer t t′ a (λ s. step s asked)
+arm : {t t′ : List ℕ} {a : Answer} {asked told : Request} → asked ≡ told → Does t t′ a (λ s. step s told) → Does t t′ a (λ s. step s asked)
 arm e p = does-as p (λ s h. ap (step s) e)
 
 pub step-spec : {M : Type 1} → statement M

@@ -1,6 +1,6 @@
 -- `lags::lag_of` meets its contract: of a ready thread it is the difference of the two products over its own rank. Assumes nothing.
 use mathlib.Core.Bool.{true, false}
-use mathlib.Core.Path.{_≡_, refl, sym, ap, _∙_}
+use mathlib.Core.Path.{_≡_, sym, ap, _∙_}
 use Prim.Native.Nat.{_*_}
 use native.Mathlib.Omega.{arith}
 use borrow.Author.Needs.{needs}
@@ -13,6 +13,7 @@ use Rattle.rules.specs.Board.{printer}
 use Rattle.rules.specs.State.{at, isReady}
 use Rattle.rules.specs.Table.{decode}
 use Rattle.laws.proofs.Lines.{ready-used}
+use Rattle.layout.proofs.Boards.{printer-long, said-printer}
 use Rattle.text.proofs.Decimal.{decimal-room}
 use Rattle.fairness.specs.Run.{sumTurns}
 use Rattle.lanes.specs.Lag.{sumOver}
@@ -22,7 +23,7 @@ use Rattle.lags.proofs.lag_of.Statement.{statement}
 use Rattle.lags.proofs.lag_of.Tie as tie
 
 load-thread-requires : tie.Need-load-thread-requires
-load-thread-requires c κs = search needs
+load-thread-requires c κs = (omega arith, printer-long (c .before .before .pre .1 .0 .0))
 
 is-ready-requires : tie.Need-is-ready-requires
 is-ready-requires c κs = search needs
@@ -33,7 +34,7 @@ returns c =
     let i = start .args .i in
     let s = decode printer (now (start .args .table)) in
     let f = of (now (start .args .accounts)) in
-    let own = c .before .before .load-thread .ensures _ refl in
+    let own = c .before .before .load-thread .ensures _ (said-printer _ (start .pre .1 .0 .0)) in
     let unready : isReady (at (s .threads) i) ≡ false = ap isReady (sym own) ∙ sym (c .before .is-ready .ensures) ∙ not-true _ (c .if1 .taken) in
     (lag-unready f s i unready, omega (arith, decimal-room 0 {n = 0} (omega arith)))
 
@@ -55,7 +56,7 @@ lag-requires c κs =
     let i = start .args .i in
     let s = decode printer (now (start .args .table)) in
     let f = of (now (start .args .accounts)) in
-    let own = c .before .before .before .before .before .load-thread .ensures _ refl in
+    let own = c .before .before .before .before .before .load-thread .ensures _ (said-printer _ (start .pre .1 .0 .0)) in
     let ready : isReady (at (s .threads) i) ≡ true = ap isReady (sym own) ∙ sym (c .before .before .before .before .is-ready .ensures) ∙ not-false _ (c .before .before .before .if1 .left) in
     let turn = start .pre .1 .0 .1 .threads i (ready-used (at (s .threads) i) ready) .turn .1 in
     let rank = c .before .before .rank-of .ensures in
@@ -67,7 +68,7 @@ returns-2 c =
     let i = start .args .i in
     let s = decode printer (now (start .args .table)) in
     let f = of (now (start .args .accounts)) in
-    let own = c .before .before .before .before .before .before .load-thread .ensures _ refl in
+    let own = c .before .before .before .before .before .before .load-thread .ensures _ (said-printer _ (start .pre .1 .0 .0)) in
     let ready : isReady (at (s .threads) i) ≡ true = ap isReady (sym own) ∙ sym (c .before .before .before .before .before .is-ready .ensures) ∙ not-false _ (c .before .before .before .before .if1 .left) in
     let rank = c .before .before .before .rank-of .ensures in
     let turns = rank .0 .1 ∙ ap (λ t. sumTurns (t .priority) (s .threads)) own in

@@ -14,6 +14,7 @@ use mir.ValLaws.{toZ-ofZ}
 use Rattle.rules.specs.Board.{printer}
 use Rattle.rules.specs.State.{at}
 use Rattle.rules.specs.Table.{decode}
+use Rattle.layout.proofs.Boards.{printer-long, said-printer}
 use Rattle.text.specs.Text.{decimal, signed}
 use Rattle.text.proofs.Decimal.{decimal-room}
 use Rattle.text.proofs.Sign.{read}
@@ -27,13 +28,13 @@ room : (c : tie.Start) → (length (decimal (c .args .i)) ≤ 2) × (length (dec
 room c = (decimal-room 1 (omega (arith, c .pre .0)), decimal-room 10 (omega (arith, c .pre .1 .1 .0 .1 (c .args .i))))
 
 load-thread-requires : tie.Need-load-thread-requires
-load-thread-requires c κs = search needs
+load-thread-requires c κs = (omega arith, printer-long (c .before .before .before .pre .1 .0 .0))
 
 returns : tie.Need-returns
 returns c =
     let start = c .before .before .before .before .before .before in
     let s = decode printer (now (start .args .table)) in
-    let unused : at (s .threads) (start .args .i) .used ≡ false = ap (λ t. t .used) (sym (c .before .before .load-thread .ensures _ refl)) ∙ not-true _ (c .if1 .taken) in
+    let unused : at (s .threads) (start .args .i) .used ≡ false = ap (λ t. t .used) (sym (c .before .before .load-thread .ensures _ (said-printer _ (start .pre .1 .0 .0)))) ∙ not-true _ (c .if1 .taken) in
     (rw unused (record { bytes = refl; place = omega arith }), omega arith)
 
 lag-of-requires : tie.Need-lag-of-requires
@@ -75,7 +76,7 @@ returns-2 c =
     let start = c .before .before .before .before .before .before .before .before .before .before .before .before .before .before .before .before .before .before .before .before .before .before .before .before in
     let i = start .args .i in
     let s = decode printer (now (start .args .table)) in
-    let used : at (s .threads) i .used ≡ true = ap (λ t. t .used) (sym (c .before .before .before .before .before .before .before .before .before .before .before .before .before .before .before .before .before .before .before .before .load-thread .ensures _ refl)) ∙ not-false _ (c .before .before .before .before .before .before .before .before .before .before .before .before .before .before .before .before .before .before .if1 .left) in
+    let used : at (s .threads) i .used ≡ true = ap (λ t. t .used) (sym (c .before .before .before .before .before .before .before .before .before .before .before .before .before .before .before .before .before .before .before .before .load-thread .ensures _ (said-printer _ (start .pre .1 .0 .0)))) ∙ not-false _ (c .before .before .before .before .before .before .before .before .before .before .before .before .before .before .before .before .before .before .if1 .left) in
     let charged = with-field (decimal (of (now (start .args .accounts)) i)) (32 ∷ []) (c .before .before .before .before .before .before .before .before .before .before .before .before .before .before .before .put-field .ensures .0) (c .before .before .before .before .before .before .before .before .before .before .put-field2 .ensures .0) in
     let same = toZ-ofZ w64 (c .before .before .before .before .before .before .before .before .before .before .before .before .before .before .before .before .before .lag-of .result) (record { sfits = c .before .before .before .before .before .before .before .before .before .before .before .before .before .before .before .before .before .lag-of .ok }) in
     let digits : length (signed (read (c .before .before .before .before .before .before .before .before .before .before .before .before .before .before .before .before .before .lag-of .result))) ≤ 19 = rw same (c .before .before .before .before .before .before .before .before .before .before .before .before .before .before .before .before .before .lag-of .ensures .1) in

@@ -11,6 +11,7 @@ use Rattle.rules.specs.Board.{printer, mostTicks}
 use Rattle.rules.specs.State.{at}
 use Rattle.rules.specs.Lines.{ready, inLine}
 use Rattle.rules.specs.Table.{decode}
+use Rattle.layout.proofs.Boards.{printer-long, said-printer}
 use Rattle.layout.proofs.RoundTrip.{on-decode}
 use Rattle.fairness.specs.Run.{sumTurns}
 use Rattle.lanes.specs.Lag.{sumOver}
@@ -34,7 +35,9 @@ unfolding sumOver
 loop-holds c = (omega arith, omega arith, omega arith, refl, refl)
 
 load-thread-requires : tie.Need-load-thread-requires Inv-loop μ-loop
-load-thread-requires c κs = (c .loop-test .taken, c .before .before .before .before .pre .0 .0)
+load-thread-requires c κs =
+    let long = c .before .before .before .before .pre .0 .0 in
+    (omega (arith, c .loop-test .taken, long), printer-long long)
 
 cast-counted : tie.Need-cast-counted Inv-loop μ-loop
 cast-counted c = search needs
@@ -49,7 +52,7 @@ add-turns c =
     let p = start .args .priority in
     let j = c .before .before .before .before .loop .j in
     let inv = c .before .before .before .before .loop .inv in
-    let own = c .before .before .load-thread .ensures _ refl in
+    let own = c .before .before .load-thread .ensures _ (said-printer _ (start .pre .0 .0)) in
     let turned : c .counted .result ≡ (if inLine (ready p) (at (s .threads) j) then at (s .threads) j .turn else 0) = rw own at (c .counted .ensures) in
     record { fits = omega (arith, turned, inv .0, inv .1, turn-most s (start .pre .0 .1) p j) }
 
@@ -69,7 +72,7 @@ add-charged c =
     let p = start .args .priority in
     let j = c .before .before .before .before .before .before .loop .j in
     let inv = c .before .before .before .before .before .before .loop .inv in
-    let own = c .before .before .before .before .load-thread .ensures _ refl in
+    let own = c .before .before .before .before .load-thread .ensures _ (said-printer _ (start .pre .0 .0)) in
     let charged : c .counted2 .result ≡ (if inLine (ready p) (at (s .threads) j) then of (now (start .args .accounts)) j else 0) = rw own at (c .counted2 .ensures) in
     record { fits = omega (arith, charged, inv .0, inv .2, start .pre .1 .1 j, counted-most (inLine (ready p) (at (s .threads) j)) (of (now (start .args .accounts)) j)) }
 
@@ -86,7 +89,7 @@ loop-again c =
     let p = start .args .priority in
     let j = c .before .before .before .before .before .before .loop .j in
     let inv = c .before .before .before .before .before .before .loop .inv in
-    let own = c .before .before .before .before .load-thread .ensures _ refl in
+    let own = c .before .before .before .before .load-thread .ensures _ (said-printer _ (start .pre .0 .0)) in
     let turned : c .before .before .counted .result ≡ (if inLine (ready p) (at (s .threads) j) then at (s .threads) j .turn else 0) = rw own at (c .before .before .counted .ensures) in
     let charged : c .counted2 .result ≡ (if inLine (ready p) (at (s .threads) j) then of (now (start .args .accounts)) j else 0) = rw own at (c .counted2 .ensures) in
     let more : j < length (s .threads) = omega (arith, c .before .before .before .before .before .loop-test .taken, on-decode printer (now (start .args .table)) .threads) in (

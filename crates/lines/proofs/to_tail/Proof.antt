@@ -6,7 +6,7 @@ use borrow.Author.Needs.{needs}
 use lib.Seq.{set-getD}
 use Rattle.rules.specs.Lines.{leave, filled, tailPlace, join, move}
 use Rattle.rules.specs.State.{free, edit, withPlace, withThreads}
-use Rattle.layout.proofs.Held.{_⨾_, becomes-as, holds-on}
+use Rattle.layout.proofs.Held.{_⨾_, becomes-as, holds-sized}
 use Rattle.lines.proofs.Standing.{tail-left}
 use Rattle.lines.proofs.to_tail.Statement.{statement}
 use Rattle.lines.proofs.to_tail.Tie as tie
@@ -26,7 +26,7 @@ returns c =
     let i = c .before .before .before .before .before .before .before .before .before .args .i in
     becomes-as (c .before .before .before .before .before .before .leave .ensures .1 ⨾ c .before .before .stand-at .ensures) (λ s h.
     let ts = s .threads in
-    let last = c .before .before .before .before .before .before .leave .ensures .0 s (h .says) ∙ sym (tail-left i ts (omega (arith, c .before .before .before .before .before .before .before .before .before .pre .0, holds-on h .threads))) in
+    let last = c .before .before .before .before .before .before .leave .ensures .0 s (h .says) ∙ sym (tail-left i ts (omega (arith, c .before .before .before .before .before .before .before .before .before .pre .0, holds-sized h .threads))) in
     ap (λ q. withThreads (edit i (λ x. filled (withPlace q x)) (leave i ts)) s) last
     ∙ ap (λ us. withThreads (edit i (λ x. filled (withPlace (tailPlace i us) x)) us) s) (sym (set-getD (leave i ts) i free)))
 

@@ -4,10 +4,13 @@ use lib.ListN.{List·getD-eq-default}
 use borrow.Author.Needs.{needs}
 use Rattle.rules.specs.State.{free}
 use Rattle.rules.specs.declared.Outcome.the-variants.{Done}
-use Rattle.layout.proofs.Held.{_⨾_, becomes-as, holds-on}
+use Rattle.layout.proofs.Held.{_⨾_, becomes-as, holds-sized}
 use Rattle.waiting.proofs.Waits.{end-out}
 use Rattle.mail.proofs.move_in.Statement.{statement}
 use Rattle.mail.proofs.move_in.Tie as tie
+
+threads-requires : tie.Need-threads-requires
+threads-requires c κs = search needs
 
 load-thread-requires : tie.Need-load-thread-requires
 load-thread-requires c κs = search needs
@@ -33,12 +36,13 @@ same-length-2 : tie.Need-same-length-2
 same-length-2 c = search needs
 
 returns-2 : tie.Need-returns-2
-returns-2 c = becomes-as (c .before .before .set-mail2 .ensures) (λ s h. rw (end-out (c .before .before .before .before .before .before .args .i) Done 0 (s .threads) (omega (arith, holds-on h .threads)), List·getD-eq-default (s .threads) free {n = c .before .before .before .before .before .before .args .i} (omega (arith, holds-on h .threads))))
+returns-2 c = becomes-as (c .before .before .set-mail2 .ensures) (λ s h. rw (end-out (c .before .before .before .before .before .before .before .before .args .i) Done 0 (s .threads) (omega (arith, c .before .before .before .before .before .threads .ensures, holds-sized h .threads)), List·getD-eq-default (s .threads) free {n = c .before .before .before .before .before .before .before .before .args .i} (omega (arith, c .before .before .before .before .before .threads .ensures, holds-sized h .threads))))
 
 pub move-in-spec : {M : Type 1} → statement M
 move-in-spec =
     tie.close
     (tie.spec
+    threads-requires
     load-thread-requires
     end-wait-requires
     set-mail-requires

@@ -2,7 +2,6 @@
 use mathlib.Core.Path.{ap}
 use borrow.Author.Needs.{needs}
 use borrow.Author.Tests.{eq-eqb, ne-eqb}
-use Rattle.rules.specs.Board.{printer}
 use Rattle.rules.specs.Mail.{doSend}
 use Rattle.rules.specs.declared.Wait.the-variants.{Send}
 use Rattle.waiting.proofs.Doing.{does-nothing, does-as, then-does}
@@ -52,7 +51,7 @@ returns-3 c =
 deliver-requires : tie.Need-deliver-requires
 deliver-requires c κs =
     let start = c .before .before .before .before .before .before .before .before .before .before in
-    (read-there printer _ (start .args .i) (c .before .before .before .before .before .before .before .thread-at .ensures) (c .before .before .before .before .before .if1 .left), start .pre .whole)
+    (read-there (c .before .before .before .before .before .before .before .before .before .before .pre .whole .long) (start .args .i) (c .before .before .before .before .before .before .before .thread-at .ensures) (c .before .before .before .before .before .if1 .left), start .pre .whole)
 
 accept-requires : tie.Need-accept-requires
 accept-requires c κs = search needs

@@ -1,7 +1,6 @@
 -- `mail::send_from_interrupt` meets its contract: each way out is a branch of the rule. Assumes nothing.
 use borrow.Author.Needs.{needs}
 use borrow.Author.Tests.{lt-ltb, le-ltb}
-use Rattle.rules.specs.Board.{printer}
 use Rattle.rules.specs.Mail.{doSendFromInterrupt}
 use Rattle.waiting.proofs.Doing.{does-nothing, then-does}
 use Rattle.waiting.proofs.There.{read-there}
@@ -42,7 +41,7 @@ returns-3 c =
 deliver-requires : tie.Need-deliver-requires
 deliver-requires c κs =
     let start = c .before .before .before .before .before .before .before .before .before .before in
-    (read-there printer _ (start .args .i) (c .before .before .before .before .before .before .before .thread-at .ensures) (c .before .before .before .before .before .if1 .left), start .pre .whole)
+    (read-there (c .before .before .before .before .before .before .before .before .before .before .pre .whole .long) (start .args .i) (c .before .before .before .before .before .before .before .thread-at .ensures) (c .before .before .before .before .before .if1 .left), start .pre .whole)
 
 accept-requires : tie.Need-accept-requires
 accept-requires c κs = search needs

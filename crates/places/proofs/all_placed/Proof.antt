@@ -23,7 +23,7 @@ same-length-2 c = search needs
 
 returns : tie.Need-returns
 returns c = (
-  pass-together _ _ (Iff·trans (rw (c .before .before .before .before .before .before .before .before .before .close .ensures, c .before .before .before .before .before .close2 .ensures) at (c .none-misplaced .ensures)) (ring-says (c .before .before .before .before .before .before .before .before .before .before .before .before .before .args .lines .now) (c .before .before .before .before .before .before .before .before .before .before .before .before .before .args .places .now) (c .before .before .before .before .before .before .before .before .before .before .before .before .before .pre .0) (c .before .before .before .before .before .before .before .before .before .before .before .before .before .pre .1))),
+  pass-together _ _ (Iff·trans (rw (c .before .before .before .before .before .before .before .before .before .close .ensures, c .before .before .before .before .before .close2 .ensures) at (c .none-misplaced .ensures)) (ring-says (c .before .before .before .before .before .before .before .before .before .before .before .before .before .args .n) (c .before .before .before .before .before .before .before .before .before .before .before .before .before .args .lines .now) (c .before .before .before .before .before .before .before .before .before .before .before .before .before .args .places .now) (c .before .before .before .before .before .before .before .before .before .before .before .before .before .pre .0 .1) (c .before .before .before .before .before .before .before .before .before .before .before .before .before .pre .0 .2) (c .before .before .before .before .before .before .before .before .before .before .before .before .before .pre .1 .2))),
   (c .before .before .before .before .before .before .before .before .before .close .ensures, c .before .before .before .before .before .close2 .ensures),
 )
 

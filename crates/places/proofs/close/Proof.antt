@@ -5,28 +5,27 @@ use native.Mathlib.Omega.{arith}
 use native.Mathlib.Numerals.{add-one}
 use lib.ListN.{getD, set}
 use lib.Seq.{paste, paste-zero, paste-suc}
-use Rattle.rules.specs.Board.{printer}
 use Rattle.places.proofs.Ring.{copy-long, front-stays}
 use Rattle.places.proofs.close.Statement.{statement}
 use Rattle.places.proofs.close.Tie as tie
 
 abbrev Inv-loop : tie.InvT-loop
-Inv-loop ring₀ i₀ ring i = (i ≤ printer .threads) × (ring ≡ paste ring₀ (printer .threads) ring₀ i)
+Inv-loop ring₀ n i₀ ring i = (i ≤ n) × (ring ≡ paste ring₀ n ring₀ i)
 
 abbrev μ-loop : tie.MeasureT-loop
-μ-loop ring₀ i₀ ring i = printer .threads - i
+μ-loop ring₀ n i₀ ring i = n - i
 
 loop-holds : tie.Need-loop-holds Inv-loop μ-loop
-loop-holds c = (omega arith, paste-zero (c .args .ring .now) (printer .threads) (c .args .ring .now))
+loop-holds c = (omega arith, paste-zero (c .args .ring .now) (c .args .n) (c .args .ring .now))
 
 slice-read-ring : tie.Need-slice-read-ring Inv-loop μ-loop
-slice-read-ring c = omega (arith, copy-long (c .before .before .before .args .ring .now) (c .before .before .loop .i) (c .before .before .before .pre) (c .before .before .loop .inv .0) (c .before .before .loop .inv .1))
+slice-read-ring c = omega (arith, copy-long (c .before .before .before .args .ring .now) (c .before .before .before .args .n) (c .before .before .loop .i) (c .before .before .before .pre .2) (c .before .before .loop .inv .0) (c .before .before .loop .inv .1))
 
 add-ring : tie.Need-add-ring Inv-loop μ-loop
 add-ring c = omega arith
 
 slice-write-ring : tie.Need-slice-write-ring Inv-loop μ-loop
-slice-write-ring c = omega (arith, copy-long (c .before .before .before .args .ring .now) (c .before .before .loop .i) (c .before .before .before .pre) (c .before .before .loop .inv .0) (c .before .before .loop .inv .1))
+slice-write-ring c = omega (arith, copy-long (c .before .before .before .args .ring .now) (c .before .before .before .args .n) (c .before .before .loop .i) (c .before .before .before .pre .2) (c .before .before .loop .inv .0) (c .before .before .loop .inv .1))
 
 add-i : tie.Need-add-i Inv-loop μ-loop
 add-i c = omega arith
@@ -38,9 +37,9 @@ loop-again : tie.Need-loop-again Inv-loop μ-loop
 loop-again c =
     let start = c .before .before .before .args .ring .now in
     let i = c .before .before .loop .i in
-    let n = printer .threads in
+    let n = c .before .before .before .args .n in
     let copied = c .before .before .loop .inv .1 in
-    let long = c .before .before .before .pre in
+    let long = c .before .before .before .pre .2 in
     let read = ap (λ r. getD r i 0) copied ∙ front-stays start n i i (omega arith) (omega arith) (omega arith) in (
       omega arith,
       ap (λ r. set r (n + i) (getD (c .before .before .loop .ring) i 0)) copied ∙ ap (set (paste start n start i) (n + i)) read
@@ -48,10 +47,10 @@ loop-again c =
     )
 
 same-length : tie.Need-same-length Inv-loop μ-loop
-same-length c = copy-long (c .before .before .args .ring .now) (c .before .loop .i) (c .before .before .pre) (c .before .loop .inv .0) (c .before .loop .inv .1)
+same-length c = copy-long (c .before .before .args .ring .now) (c .before .before .args .n) (c .before .loop .i) (c .before .before .pre .2) (c .before .loop .inv .0) (c .before .loop .inv .1)
 
 returns : tie.Need-returns Inv-loop μ-loop
-returns c = let e : c .before .loop .i ≡ printer .threads = omega arith in c .before .loop .inv .1 ∙ ap (paste (c .before .before .args .ring .now) (printer .threads) (c .before .before .args .ring .now)) e
+returns c = let e : c .before .loop .i ≡ c .before .before .args .n = omega arith in c .before .loop .inv .1 ∙ ap (paste (c .before .before .args .ring .now) (c .before .before .args .n) (c .before .before .args .ring .now)) e
 
 pub close-spec : {M : Type 1} → statement M
 close-spec =

@@ -3,17 +3,16 @@ use mathlib.Core.Path.{_≡_, _∙_}
 use Prim.Native.Nat.{_+_, _-_, _≤_}
 use native.Mathlib.Omega.{arith}
 use borrow.Author.Needs.{needs}
-use Rattle.rules.specs.Board.{printer}
 use Rattle.places.specs.Rings.{entryIn, countBelow}
 use Rattle.places.proofs.Below.{count-most, counted-none, counted-more, counted-all}
 use Rattle.places.proofs.length_of.Statement.{statement}
 use Rattle.places.proofs.length_of.Tie as tie
 
 abbrev Inv-loop : tie.InvT-loop
-Inv-loop lines from line n₀ k₀ k-end n k = (from ≤ k) × (k ≤ from + printer .threads) × (n ≡ countBelow (k - from) (λ m. entryIn lines line (from + m)))
+Inv-loop lines n from line length₀ k₀ k-end length k = (from ≤ k) × (k ≤ from + n) × (length ≡ countBelow (k - from) (λ m. entryIn lines line (from + m)))
 
 abbrev μ-loop : tie.MeasureT-loop
-μ-loop lines from line n₀ k₀ k-end n k = from + printer .threads - k
+μ-loop lines n from line length₀ k₀ k-end length k = from + n - k
 
 add-k-end : tie.Need-add-k-end Inv-loop μ-loop
 add-k-end c = omega arith
@@ -27,8 +26,8 @@ shared-slice-read-same c = omega (arith, c .before .before .before .before .pre 
 same-requires : tie.Need-same-requires Inv-loop μ-loop
 same-requires c κs = search needs
 
-add-n : tie.Need-add-n Inv-loop μ-loop
-add-n c = omega (arith, c .before .before .before .loop .inv .2, c .same .ensures .1, count-most (c .before .before .before .loop .k - c .before .before .before .before .before .args .from) (λ m. entryIn (c .before .before .before .before .before .args .lines .now) (c .before .before .before .before .before .args .line) (c .before .before .before .before .before .args .from + m)))
+add-length : tie.Need-add-length Inv-loop μ-loop
+add-length c = omega (arith, c .before .before .before .loop .inv .2, c .same .ensures .1, count-most (c .before .before .before .loop .k - c .before .before .before .before .before .args .from) (λ m. entryIn (c .before .before .before .before .before .args .lines .now) (c .before .before .before .before .before .args .line) (c .before .before .before .before .before .args .from + m)))
 
 add-k : tie.Need-add-k Inv-loop μ-loop
 add-k c = omega arith
@@ -40,7 +39,7 @@ loop-again : tie.Need-loop-again Inv-loop μ-loop
 loop-again c = (omega arith, omega arith, omega (arith, c .before .before .before .loop .inv .2, c .same .ensures .0, counted-more (entryIn (c .before .before .before .before .before .args .lines .now) (c .before .before .before .before .before .args .line)) (c .before .before .before .before .before .args .from) (c .before .before .before .loop .k) (c .before .before .before .loop .inv .0)))
 
 returns : tie.Need-returns Inv-loop μ-loop
-returns c = c .before .loop .inv .2 ∙ counted-all (entryIn (c .before .before .before .args .lines .now) (c .before .before .before .args .line)) (c .before .before .before .args .from) (printer .threads) (c .before .loop .k) (omega arith)
+returns c = c .before .loop .inv .2 ∙ counted-all (entryIn (c .before .before .before .args .lines .now) (c .before .before .before .args .line)) (c .before .before .before .args .from) (c .before .before .before .args .n) (c .before .loop .k) (omega arith)
 
 pub length-of-spec : {M : Type 1} → statement M
 length-of-spec =
@@ -52,7 +51,7 @@ length-of-spec =
     loop-holds
     shared-slice-read-same
     same-requires
-    add-n
+    add-length
     add-k
     loop-less
     loop-again

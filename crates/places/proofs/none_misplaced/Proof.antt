@@ -5,17 +5,16 @@ use Prim.Native.Nat.{ℕ, _-_, _≤_, _<_}
 use native.Mathlib.Omega.{arith}
 use borrow.Author.Count.{below-more}
 use borrow.Author.Tests.{eqb-true, eq-eqb}
-use Rattle.rules.specs.Board.{printer}
 use Rattle.laws.proofs.Bitwise.{or-none}
 use Rattle.places.specs.Rings.{Near}
 use Rattle.places.proofs.none_misplaced.Statement.{statement}
 use Rattle.places.proofs.none_misplaced.Tie as tie
 
 abbrev Inv-loop : tie.InvT-loop
-Inv-loop lines places bad₀ j₀ bad j = (j ≤ printer .threads) × ((bad ≡ 0) ↔ ((m : ℕ) → m < j → Near lines places m))
+Inv-loop lines places n bad₀ j₀ bad j = (j ≤ n) × ((bad ≡ 0) ↔ ((m : ℕ) → m < j → Near n lines places m))
 
 abbrev μ-loop : tie.MeasureT-loop
-μ-loop lines places bad₀ j₀ bad j = printer .threads - j
+μ-loop lines places n bad₀ j₀ bad j = n - j
 
 loop-holds : tie.Need-loop-holds Inv-loop μ-loop
 loop-holds c = (omega arith, (λ e m h. absurd (omega arith), λ h. refl))

@@ -9,17 +9,17 @@ use borrow.Author.Count.{below-more}
 use lib.Dec.{eqb}
 use lib.ListN.{getD}
 use Rattle.laws.proofs.Bitwise.{or-none}
-use Rattle.places.specs.Rings.{half, entryIn, entryAt}
+use Rattle.places.specs.Rings.{entryIn, entryAt}
 use Rattle.places.proofs.Below.{both}
 use Rattle.places.proofs.shared.Statement.{statement}
 use Rattle.places.proofs.shared.Tie as tie
 
 abbrev Inv-loop : tie.InvT-loop
-Inv-loop lines places from line place found₀ k₀ k-end found k =
-    (from ≤ k) × (k ≤ from + half) × ((found ≡ 0) ↔ ((m : ℕ) → m < k → from ≤ m → entryAt lines places line place m ≡ false))
+Inv-loop lines places n from line place found₀ k₀ k-end found k =
+    (from ≤ k) × (k ≤ from + n) × ((found ≡ 0) ↔ ((m : ℕ) → m < k → from ≤ m → entryAt lines places line place m ≡ false))
 
 abbrev μ-loop : tie.MeasureT-loop
-μ-loop lines places from line place found₀ k₀ k-end found k = from + half - k
+μ-loop lines places n from line place found₀ k₀ k-end found k = from + n - k
 
 add-k-end : tie.Need-add-k-end Inv-loop μ-loop
 add-k-end c = omega arith
@@ -28,13 +28,13 @@ loop-holds : tie.Need-loop-holds Inv-loop μ-loop
 loop-holds c = (omega arith, omega arith, (λ e m h l. absurd (omega arith), λ h. refl))
 
 shared-slice-read-same : tie.Need-shared-slice-read-same Inv-loop μ-loop
-shared-slice-read-same c = omega (arith, c .before .before .before .before .before .pre .1)
+shared-slice-read-same c = omega (arith, c .before .before .before .before .before .pre .0)
 
 same-requires : tie.Need-same-requires Inv-loop μ-loop
 same-requires c κs = search needs
 
 shared-slice-read-same-2 : tie.Need-shared-slice-read-same-2 Inv-loop μ-loop
-shared-slice-read-same-2 c = omega (arith, c .before .before .before .before .before .before .before .pre .2)
+shared-slice-read-same-2 c = omega (arith, c .before .before .before .before .before .before .before .pre .1)
 
 same-requires-2 : tie.Need-same-requires-2 Inv-loop μ-loop
 same-requires-2 c κs = search needs

@@ -1,4 +1,5 @@
 -- `ready::free_thread` meets its contract: the word is mended after the change. Assumes nothing.
+use native.Mathlib.Omega.{arith}
 use borrow.Author.Needs.{needs}
 use Rattle.rules.specs.State.{free}
 use Rattle.ready.proofs.Mended.{mends, mended}
@@ -9,7 +10,7 @@ free-thread-requires : tie.Need-free-thread-requires
 free-thread-requires c κs = search needs
 
 mend-requires : tie.Need-mend-requires
-mend-requires c κs = (c .before .before .before .before .before .before .pre .0, c .before .before .before .free-thread .ensures .laid, mends (c .before .before .before .before .before .before .pre .1) (c .before .before .before .before .before .before .args .i) (c .before .before .before .before .before .before .pre .0) (λ x. free) (c .before .before .before .free-thread .ensures) (c .before .before .before .before .before .before .pre .2))
+mend-requires c κs = (omega (arith, c .before .before .before .before .before .before .pre .0, c .before .before .before .free-thread .kept), c .before .before .before .free-thread .ensures .laid, mends (c .before .before .before .before .before .before .pre .1) (c .before .before .before .before .before .before .args .i) (c .before .before .before .before .before .before .pre .0) (λ x. free) (c .before .before .before .free-thread .ensures) (c .before .before .before .before .before .before .pre .2))
 
 same-length : tie.Need-same-length
 same-length c = search needs

@@ -4,9 +4,8 @@ use Prim.Native.Nat.{_-_}
 use native.Mathlib.Omega.{arith}
 use borrow.Author.Needs.{needs}
 use lib.Bits.{bitOr}
-use Rattle.rules.specs.Board.{printer}
 use Rattle.rules.specs.Lines.{readyWord}
-use Rattle.rules.specs.Table.{decode}
+use Rattle.layout.specs.Held.{said}
 use Rattle.layout.proofs.Held.{shows-holds}
 use Rattle.ready.specs.Word.{readyBit}
 use Rattle.ready.proofs.mend.Statement.{statement}
@@ -32,7 +31,7 @@ same-length c = search needs
 
 returns : tie.Need-returns
 returns c = λ s w h.
-    let own = c .before .before .before .before .ready-bit .ensures ∙ ap readyBit (c .before .before .before .before .before .before .before .load-thread .ensures (decode printer _) refl) in
+    let own = c .before .before .before .before .ready-bit .ensures ∙ ap readyBit (c .before .before .before .before .before .before .before .load-thread .ensures (said _) refl) in
     shows-holds (c .before .before .set-word .ensures s w h)
     ((λ j. bitOr (c .before .before .before .before .before .word .ensures j - c .before .before .before .before .before .before .before .before .before .before .args .left) (own j)) ∙ c .before .before .before .before .before .before .before .before .before .before .pre .2 .right ∙ ap (λ z. readyWord (z .threads)) (h .says))
 

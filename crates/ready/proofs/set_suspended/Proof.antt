@@ -1,4 +1,5 @@
 -- `ready::set_suspended` meets its contract: the word is mended after the change. Assumes nothing.
+use native.Mathlib.Omega.{arith}
 use borrow.Author.Needs.{needs}
 use Rattle.rules.specs.State.{withSuspended}
 use Rattle.layout.proofs.Held.{whole-laid}
@@ -10,7 +11,7 @@ set-suspended-requires : tie.Need-set-suspended-requires
 set-suspended-requires c κs = (c .before .before .pre .0, whole-laid (c .before .before .pre .1))
 
 mend-requires : tie.Need-mend-requires
-mend-requires c κs = (c .before .before .before .before .before .before .pre .0, c .before .before .before .set-suspended .ensures .laid, mends (c .before .before .before .before .before .before .pre .1) (c .before .before .before .before .before .before .args .i) (c .before .before .before .before .before .before .pre .0) (withSuspended (c .before .before .before .before .before .before .args .suspended)) (c .before .before .before .set-suspended .ensures) (c .before .before .before .before .before .before .pre .2))
+mend-requires c κs = (omega (arith, c .before .before .before .before .before .before .pre .0, c .before .before .before .set-suspended .kept), c .before .before .before .set-suspended .ensures .laid, mends (c .before .before .before .before .before .before .pre .1) (c .before .before .before .before .before .before .args .i) (c .before .before .before .before .before .before .pre .0) (withSuspended (c .before .before .before .before .before .before .args .suspended)) (c .before .before .before .set-suspended .ensures) (c .before .before .before .before .before .before .pre .2))
 
 same-length : tie.Need-same-length
 same-length c = search needs

@@ -1,4 +1,5 @@
 -- `ready::store_thread` meets its contract: the word is mended after the change. Assumes nothing.
+use native.Mathlib.Omega.{arith}
 use borrow.Author.Needs.{needs}
 use Rattle.ready.proofs.Mended.{mends, mended}
 use Rattle.ready.proofs.store_thread.Statement.{statement}
@@ -8,7 +9,7 @@ store-thread-requires : tie.Need-store-thread-requires
 store-thread-requires c κs = search needs
 
 mend-requires : tie.Need-mend-requires
-mend-requires c κs = (c .before .before .before .before .before .before .pre .0, c .before .before .before .store-thread .ensures .laid, mends (c .before .before .before .before .before .before .pre .1) (c .before .before .before .before .before .before .args .i) (c .before .before .before .before .before .before .pre .0) (λ x. c .before .before .before .before .before .before .args .th) (c .before .before .before .store-thread .ensures) (c .before .before .before .before .before .before .pre .2))
+mend-requires c κs = (omega (arith, c .before .before .before .before .before .before .pre .0, c .before .before .before .store-thread .kept), c .before .before .before .store-thread .ensures .laid, mends (c .before .before .before .before .before .before .pre .1) (c .before .before .before .before .before .before .args .i) (c .before .before .before .before .before .before .pre .0) (λ x. c .before .before .before .before .before .before .args .th) (c .before .before .before .store-thread .ensures) (c .before .before .before .before .before .before .pre .2))
 
 same-length : tie.Need-same-length
 same-length c = search needs

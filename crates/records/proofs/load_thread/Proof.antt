@@ -1,12 +1,10 @@
 -- `records::load_thread` meets its contract: each field is what the record says, and the record is the thread's. Assumes
 -- nothing.
-use mathlib.Core.Path.{sym, ap, _∙_}
+use mathlib.Core.Path.{sym, _∙_}
 use borrow.Author.Needs.{needs}
-use Rattle.rules.specs.State.{at}
-use Rattle.rules.specs.Board.{printer}
-use Rattle.layout.proofs.Said.{thread-said}
 use Rattle.records.proofs.Rows.{thread-made}
 use Rattle.records.proofs.load_thread.Statement.{statement}
+use Rattle.layout.proofs.Boards.{thread-told}
 use Rattle.records.proofs.load_thread.Tie as tie
 
 mul-base : tie.Need-mul-base
@@ -105,7 +103,7 @@ returns c =
     (c .before .before .before .before .before .before .before .word-at2 .ensures)
     (c .before .before .before .before .before .before .word-at3 .ensures)
     (c .before .before .before .before .before .word-at4 .ensures))
-    ∙ sym (thread-said printer _ (start .pre .1) i (start .pre .0)) ∙ ap (λ s. at (s .threads) i) e
+    ∙ thread-told (start .pre .1) e i (start .pre .0)
 
 pub load-thread-spec : {M : Type 1} → statement M
 load-thread-spec =

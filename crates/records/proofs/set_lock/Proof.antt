@@ -8,6 +8,12 @@ use Rattle.layout.proofs.Held.{kernel-written}
 use Rattle.records.proofs.set_lock.Statement.{statement}
 use Rattle.records.proofs.set_lock.Tie as tie
 
+kernel-from-requires : tie.Need-kernel-from-requires
+kernel-from-requires c κs = search needs
+
+add-t : tie.Need-add-t
+add-t c = search needs
+
 slice-write-t : tie.Need-slice-write-t
 slice-write-t c = search needs
 
@@ -16,7 +22,7 @@ same-length c = search needs
 
 returns : tie.Need-returns
 unfolding puts kernelRow
-returns c = kernel-written (c .pre) (λ r. r) (λ n. c .args .n) (put 1 (c .args .n) ∷ []) (λ r n v. refl) refl
+returns c = kernel-written (c .before .before .before .pre) (λ r. r) (λ n. c .before .before .before .args .n) (put 1 (c .before .before .before .args .n) ∷ []) (λ r n v. refl) (c .kernel-from .result) (c .kernel-from .ensures .0) refl
 
 pub set-lock-spec : {M : Type 1} → statement M
-set-lock-spec = tie.close (tie.spec slice-write-t same-length returns)
+set-lock-spec = tie.close (tie.spec kernel-from-requires add-t slice-write-t same-length returns)

@@ -5,6 +5,7 @@ use native.Mathlib.Omega.{arith}
 use borrow.Author.Needs.{needs}
 use Rattle.rules.specs.State.{edit, withPlace, withMail, withOutcome, withTurn, withThreads}
 use Rattle.laws.proofs.Word.{word-edit}
+use Rattle.layout.proofs.Boards.{counted}
 use Rattle.layout.proofs.Held.{_⨾_, _⨟_, whole-laid, changes-as, becomes-changes}
 use Rattle.records.proofs.Rows.{stored}
 use Rattle.records.proofs.store_thread.Statement.{statement}
@@ -23,7 +24,7 @@ set-turn-requires : tie.Need-set-turn-requires
 set-turn-requires c κs = search needs
 
 set-used-requires : tie.Need-set-used-requires
-set-used-requires c κs = (c .before .before .before .before .before .before .before .before .before .before .before .before .before .before .before .before .before .before .pre .0, whole-laid (c .before .before .before .set-turn .ensures .whole))
+set-used-requires c κs = (omega (arith, c .before .before .before .before .before .before .before .before .before .before .before .before .before .before .before .before .before .before .pre .0, c .before .before .before .before .before .before .before .before .before .before .before .before .before .before .before .set-place .kept, c .before .before .before .before .before .before .before .before .before .before .before .set-mail .kept, c .before .before .before .before .before .before .before .set-outcome .kept, c .before .before .before .set-turn .kept), whole-laid (c .before .before .before .set-turn .ensures .whole))
 
 set-priority-requires : tie.Need-set-priority-requires
 set-priority-requires c κs = search needs
@@ -32,10 +33,10 @@ set-suspended-requires : tie.Need-set-suspended-requires
 set-suspended-requires c κs = search needs
 
 set-wait-requires : tie.Need-set-wait-requires
-set-wait-requires c κs = (c .before .before .before .before .before .before .before .before .before .before .before .before .before .before .before .before .before .before .before .before .before .before .before .before .before .before .before .before .before .before .pre .0, c .before .before .before .set-suspended .ensures .laid)
+set-wait-requires c κs = (omega (arith, c .before .before .before .before .before .before .before .before .before .before .before .before .before .before .before .before .before .before .before .before .before .before .before .before .before .before .before .before .before .before .pre .0, c .before .before .before .before .before .before .before .before .before .before .before .before .before .before .before .before .before .before .before .before .before .before .before .before .before .before .before .set-place .kept, c .before .before .before .before .before .before .before .before .before .before .before .before .before .before .before .before .before .before .before .before .before .before .before .set-mail .kept, c .before .before .before .before .before .before .before .before .before .before .before .before .before .before .before .before .before .before .before .set-outcome .kept, c .before .before .before .before .before .before .before .before .before .before .before .before .before .before .before .set-turn .kept, c .before .before .before .before .before .before .before .before .before .before .before .set-used .kept, c .before .before .before .before .before .before .before .set-priority .kept, c .before .before .before .set-suspended .kept), c .before .before .before .set-suspended .ensures .laid)
 
 same-length : tie.Need-same-length
-same-length c = search needs
+same-length c = omega (arith, c .before .before .before .before .before .before .before .before .before .before .before .before .before .before .before .before .before .before .before .before .before .before .before .before .before .before .before .before .before .before .set-place .kept, c .before .before .before .before .before .before .before .before .before .before .before .before .before .before .before .before .before .before .before .before .before .before .before .before .before .before .set-mail .kept, c .before .before .before .before .before .before .before .before .before .before .before .before .before .before .before .before .before .before .before .before .before .before .set-outcome .kept, c .before .before .before .before .before .before .before .before .before .before .before .before .before .before .before .before .before .before .set-turn .kept, c .before .before .before .before .before .before .before .before .before .before .before .before .before .before .set-used .kept, c .before .before .before .before .before .before .before .before .before .before .set-priority .kept, c .before .before .before .before .before .before .set-suspended .kept, c .before .before .set-wait .kept)
 
 returns : tie.Need-returns
 returns c =
@@ -54,7 +55,7 @@ returns c =
     ⨟ c .before .before .before .before .before .before .before .before .before .before .set-priority .ensures
     ⨟ c .before .before .before .before .before .before .set-suspended .ensures
     ⨟ c .before .before .set-wait .ensures)
-    (λ s on. ap (λ ts. withThreads ts s) (stored (s .threads) (a .i) (a .th) (omega (arith, on .threads, c .before .before .before .before .before .before .before .before .before .before .before .before .before .before .before .before .before .before .before .before .before .before .before .before .before .before .before .before .before .before .before .before .before .pre .0))))
+    (λ s on. ap (λ ts. withThreads ts s) (stored (s .threads) (a .i) (a .th) (omega (arith, on .threads, counted _ (c .before .before .before .before .before .before .before .before .before .before .before .before .before .before .before .before .before .before .before .before .before .before .before .before .before .before .before .before .before .before .before .before .before .pre .1 .long) .threads, c .before .before .before .before .before .before .before .before .before .before .before .before .before .before .before .before .before .before .before .before .before .before .before .before .before .before .before .before .before .before .before .before .before .pre .0))))
 
 pub store-thread-spec : {M : Type 1} → statement M
 store-thread-spec =

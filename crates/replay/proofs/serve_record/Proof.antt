@@ -1,14 +1,19 @@
--- `replay::serve_record` meets its contract: its line is of what the door answered. Assumes nothing.
+-- `replay::serve_record` meets its contract: its line is of what the door answered, on the board that the table's length says. Assumes nothing.
+use mathlib.Core.Path.{_≡_, ap, _∙_}
+use Prim.Native.Nat.{_+_, _-_}
 use native.Mathlib.Omega.{arith}
-use mathlib.Core.Path.{_≡_, refl, _∙_}
-use Rattle.rules.specs.Board.{printer}
-use Rattle.rules.specs.Requests.{requestLength}
-use Rattle.layout.proofs.Said.{running-said}
+use borrow.Author.Needs.{needs}
+use denote.Ref.{now}
+use lib.ListN.{take, drop}
 use mir.Syntax.{w32}
 use mir.ValLaws.{toZ-ofZ}
-use Prim.Native.Nat.{_+_, _-_}
+use Rattle.rules.specs.Board.{printer}
+use Rattle.rules.specs.Requests.{requestLength}
+use Rattle.rules.specs.Door.{door}
+use Rattle.rules.specs.Trace.{cleanArea}
+use Rattle.layout.proofs.Boards.{printer-board, printer-long, said-printer}
+use Rattle.layout.proofs.Said.{running-said}
 use Rattle.replay.proofs.Line.{line-put}
-use borrow.Author.Needs.{needs}
 use Rattle.replay.proofs.serve_record.Statement.{statement}
 use Rattle.replay.proofs.serve_record.Tie as tie
 
@@ -37,10 +42,10 @@ word-at-requires : tie.Need-word-at-requires
 word-at-requires c κs = search needs
 
 running-requires : tie.Need-running-requires
-running-requires c κs = search needs
+running-requires c κs = printer-long (c .before .before .before .before .before .before .speltmallet-door .kept .0 ∙ c .before .before .before .before .before .before .before .before .before .before .before .before .before .pre .0)
 
 cast-put-line : tie.Need-cast-put-line
-cast-put-line c = omega (arith, c .before .before .before .before .before .before .slice-known3 .given 576, c .before .running .ensures _ refl ∙ running-said printer _)
+cast-put-line c = omega (arith, c .before .before .before .before .before .before .slice-known3 .given 576, c .before .running .ensures _ (said-printer _ (c .before .before .before .before .before .before .before .before .speltmallet-door .kept .0 ∙ c .before .before .before .before .before .before .before .before .before .before .before .before .before .before .before .pre .0)) ∙ running-said printer _)
 
 put-line-requires : tie.Need-put-line-requires
 put-line-requires c κs = search needs
@@ -54,14 +59,16 @@ same-length-2 c = search needs
 returns : tie.Need-returns
 returns c =
     let put = c .before .before .put-line in
-    let door = c .before .before .before .before .before .before .before .before .before .before .before .speltmallet-door in
+    let called = c .before .before .before .before .before .before .before .before .before .before .before .speltmallet-door in
     let start = c .before .before .before .before .before .before .before .before .before .before .before .before .before .before .before .before .before .before in
     let part : start .args .at + requestLength - start .args .at ≡ requestLength = omega arith in
-    let code = rw part at (door .ensures .0) in
-    let table = rw part at (door .ensures .1 .0) in
-    let area = rw part at (door .ensures .1 .1) in
-    let line = rw (toZ-ofZ w32 _ (record { sfits = door .ok })) at (put .ensures .0) in
-    (table, (line-put printer _ _ _ _ _ _ _ _ _ _ _ code area (c .before .before .before .before .before .before .word-at .ensures) table (c .before .before .before .before .running .ensures _ refl) line, put .ensures .1))
+    let served = ap (λ b. door b (now (start .args .table)) (take requestLength (drop (start .args .at) (now (start .args .input)))) cleanArea) (printer-board _ (start .pre .0)) in
+    let code = rw part at (called .ensures .0) ∙ ap (λ d. d .code) served in
+    let table = rw part at (called .ensures .1 .0) ∙ ap (λ d. d .table) served in
+    let area = rw part at (called .ensures .1 .1) ∙ ap (λ d. d .area) served in
+    let running = c .before .before .before .before .running .ensures _ (said-printer _ (called .kept .0 ∙ start .pre .0)) in
+    let line = rw (toZ-ofZ w32 _ (record { sfits = called .ok })) at (put .ensures .0) in
+    (table, (line-put printer _ _ _ _ _ _ _ _ _ _ _ code area (c .before .before .before .before .before .before .word-at .ensures) table running line, put .ensures .1))
 
 pub serve-record-spec : {M : Type 1} → statement M
 serve-record-spec =

@@ -1,6 +1,6 @@
 -- `semaphores::drop_semaphore` meets its contract: each way out is a branch of the rule. Assumes nothing.
+use native.Mathlib.Omega.{arith}
 use borrow.Author.Needs.{needs}
-use Rattle.rules.specs.Board.{printer}
 use Rattle.rules.specs.Lines.{waiters}
 use Rattle.rules.specs.Semaphores.{doDrop}
 use Rattle.layout.proofs.Held.{_⨾_}
@@ -30,10 +30,9 @@ serve-requires c κs = search needs
 
 set-sem-requires : tie.Need-set-sem-requires
 set-sem-requires c κs =
-    let start = c .before .before .before .before .before .before .before .before .before .before .before .before .before in
     let sem-at = c .before .before .before .before .before .before .before .before .before .before .sem-at in
     let if1 = c .before .before .before .before .before .before .before .before .if1 in
-    (sem-there printer _ (start .args .k) (sem-at .ensures) (if1 .left), c .before .before .before .serve .ensures (waiters (start .args .k)) (c .before .before .before .before .before .before .before .waiters-line .ensures) .whole)
+    (omega (arith, sem-there (c .before .before .before .before .before .before .before .before .before .before .before .before .before .pre .whole .long) (c .before .before .before .before .before .before .before .before .before .before .before .before .before .args .k) (sem-at .ensures) (if1 .left), c .before .before .before .serve .kept), c .before .before .before .serve .ensures (waiters (c .before .before .before .before .before .before .before .before .before .before .before .before .before .args .k)) (c .before .before .before .before .before .before .before .waiters-line .ensures) .whole)
 
 accept-requires : tie.Need-accept-requires
 accept-requires c κs = search needs
@@ -44,13 +43,12 @@ same-length-2 c = search needs
 returns-2 : tie.Need-returns-2
 unfolding doDrop
 returns-2 c =
-    let start = c .before .before .before .before .before .before .before .before .before .before .before .before .before .before .before .before .before .before .before .before in
     let sem-at = c .before .before .before .before .before .before .before .before .before .before .before .before .before .before .before .before .before .sem-at in
     let if1 = c .before .before .before .before .before .before .before .before .before .before .before .before .before .before .before .if1 in
     let waiters-line = c .before .before .before .before .before .before .before .before .before .before .before .before .before .before .waiters-line in
     let line-length = c .before .before .before .before .before .before .before .before .before .before .before .before .line-length in
     let serve = c .before .before .before .before .before .before .before .before .before .before .serve in
-    then-does (serve .ensures (waiters (start .args .k)) (waiters-line .ensures) ⨾ c .before .before .before .before .before .before .set-sem .ensures) (c .before .before .accept .ensures) (λ s h. rw (← sem-at .ensures s (h .says), if1 .left, ← line-length .ensures s (waiters (start .args .k)) (h .says) (waiters-line .ensures)))
+    then-does (serve .ensures (waiters (c .before .before .before .before .before .before .before .before .before .before .before .before .before .before .before .before .before .before .before .before .args .k)) (waiters-line .ensures) ⨾ c .before .before .before .before .before .before .set-sem .ensures) (c .before .before .accept .ensures) (λ s h. rw (← sem-at .ensures s (h .says), if1 .left, ← line-length .ensures s (waiters (c .before .before .before .before .before .before .before .before .before .before .before .before .before .before .before .before .before .before .before .before .args .k)) (h .says) (waiters-line .ensures)))
 
 pub drop-semaphore-spec : {M : Type 1} → statement M
 drop-semaphore-spec =

@@ -4,7 +4,6 @@ use Prim.Native.Nat.{ℕ, pred, _-_}
 use native.Mathlib.Omega.{arith}
 use borrow.Author.Needs.{needs}
 use borrow.Author.Tests.{lt-ltb, le-ltb}
-use Rattle.rules.specs.Board.{printer}
 use Rattle.rules.specs.Semaphores.{countOf, doPend}
 use Rattle.rules.specs.declared.Wait.the-variants.{Semaphore}
 use Rattle.waiting.proofs.Doing.{does-nothing, does-as, then-does}
@@ -31,7 +30,7 @@ sub-left c = search needs
 set-count-requires : tie.Need-set-count-requires
 set-count-requires c κs =
     let start = c .before .before .before .before .before .before .before .before .before in
-    (sem-there printer _ (start .args .k) (c .before .before .before .before .before .before .sem-at .ensures) (c .before .before .before .before .if1 .left), start .pre .whole)
+    (sem-there (c .before .before .before .before .before .before .before .before .before .pre .whole .long) (start .args .k) (c .before .before .before .before .before .before .sem-at .ensures) (c .before .before .before .before .if1 .left), start .pre .whole)
 
 cast-accept : tie.Need-cast-accept
 cast-accept c = search needs

@@ -2,7 +2,6 @@
 use Prim.Native.Nat.{_-_}
 use native.Mathlib.Omega.{arith}
 use borrow.Author.Needs.{needs}
-use Rattle.rules.specs.Board.{printer}
 use Rattle.rules.specs.Lines.{waiters}
 use Rattle.rules.specs.Semaphores.{countOf, servedBy, countAfter, tooMany, posted, doPost}
 use Rattle.layout.proofs.Held.{_⨾_}
@@ -45,36 +44,32 @@ same-length-2 c = search needs
 returns-2 : tie.Need-returns-2
 unfolding doPost
 returns-2 c =
-    let start = c .before .before .before .before .before .before .before .before .before .before .before in
     let sem-at = c .before .before .before .before .before .before .before .before .sem-at in
     let waiters-line = c .before .before .before .before .before .waiters-line in
     let line-length = c .before .before .before .line-length in
-    does-nothing (start .pre .whole) (λ s e. rw (← sem-at .ensures s e, tooMany, countAfter, servedBy, countOf, c .before .before .before .before .before .before .if1 .left, ← line-length .ensures s (waiters (start .args .k)) e (waiters-line .ensures), ← c .before .before .served-by .ensures, ← c .before .too-many .ensures, c .if2 .taken))
+    does-nothing (c .before .before .before .before .before .before .before .before .before .before .before .pre .whole) (λ s e. rw (← sem-at .ensures s e, tooMany, countAfter, servedBy, countOf, c .before .before .before .before .before .before .if1 .left, ← line-length .ensures s (waiters (c .before .before .before .before .before .before .before .before .before .before .before .args .k)) e (waiters-line .ensures), ← c .before .before .served-by .ensures, ← c .before .too-many .ensures, c .if2 .taken))
 
 serve-requires : tie.Need-serve-requires
 serve-requires c κs = search needs
 
 cast-set-count : tie.Need-cast-set-count
 cast-set-count c =
-    let start = c .before .before .before .before .before .before .before .before .before .before .before .before .before .before .before .before in
     let sem-at = c .before .before .before .before .before .before .before .before .before .before .before .before .before .sem-at in
     let served-by = c .before .before .before .before .before .before .before .served-by in
-    omega (arith, sum-fits (sem-at .result .count) (start .args .n) (start .args .n - served-by .result) (c .before .before .before .before .before .before .too-many .ensures) (c .before .before .before .before .before .if2 .left))
+    omega (arith, sum-fits (sem-at .result .count) (c .before .before .before .before .before .before .before .before .before .before .before .before .before .before .before .before .args .n) (c .before .before .before .before .before .before .before .before .before .before .before .before .before .before .before .before .args .n - served-by .result) (c .before .before .before .before .before .before .too-many .ensures) (c .before .before .before .before .before .if2 .left))
 
 add-set-count : tie.Need-add-set-count
 add-set-count c =
-    let start = c .before .before .before .before .before .before .before .before .before .before .before .before .before .before .before .before .before in
     let sem-at = c .before .before .before .before .before .before .before .before .before .before .before .before .before .before .sem-at in
     let served-by = c .before .before .before .before .before .before .before .before .served-by in
-    omega (arith, sum-fits (sem-at .result .count) (start .args .n) (start .args .n - served-by .result) (c .before .before .before .before .before .before .before .too-many .ensures) (c .before .before .before .before .before .before .if2 .left))
+    omega (arith, sum-fits (sem-at .result .count) (c .before .before .before .before .before .before .before .before .before .before .before .before .before .before .before .before .before .args .n) (c .before .before .before .before .before .before .before .before .before .before .before .before .before .before .before .before .before .args .n - served-by .result) (c .before .before .before .before .before .before .before .too-many .ensures) (c .before .before .before .before .before .before .if2 .left))
 
 set-count-requires : tie.Need-set-count-requires
 set-count-requires c κs =
-    let start = c .before .before .before .before .before .before .before .before .before .before .before .before .before .before .before .before .before in
     let sem-at = c .before .before .before .before .before .before .before .before .before .before .before .before .before .before .sem-at in
     let if1 = c .before .before .before .before .before .before .before .before .before .before .before .before .if1 in
     let waiters-line = c .before .before .before .before .before .before .before .before .before .before .before .waiters-line in
-    (sem-there printer _ (start .args .k) (sem-at .ensures) (if1 .left), c .before .before .before .before .serve .ensures (waiters (start .args .k)) (waiters-line .ensures) .whole)
+    (omega (arith, sem-there (c .before .before .before .before .before .before .before .before .before .before .before .before .before .before .before .before .before .pre .whole .long) (c .before .before .before .before .before .before .before .before .before .before .before .before .before .before .before .before .before .args .k) (sem-at .ensures) (if1 .left), c .before .before .before .before .serve .kept), c .before .before .before .before .serve .ensures (waiters (c .before .before .before .before .before .before .before .before .before .before .before .before .before .before .before .before .before .args .k)) (waiters-line .ensures) .whole)
 
 accept-requires : tie.Need-accept-requires
 accept-requires c κs = search needs
@@ -85,7 +80,6 @@ same-length-3 c = search needs
 returns-3 : tie.Need-returns-3
 unfolding posted doPost
 returns-3 c =
-    let start = c .before .before .before .before .before .before .before .before .before .before .before .before .before .before .before .before .before .before .before .before .before .before .before .before in
     let sem-at = c .before .before .before .before .before .before .before .before .before .before .before .before .before .before .before .before .before .before .before .before .before .sem-at in
     let if1 = c .before .before .before .before .before .before .before .before .before .before .before .before .before .before .before .before .before .before .before .if1 in
     let waiters-line = c .before .before .before .before .before .before .before .before .before .before .before .before .before .before .before .before .before .before .waiters-line in
@@ -94,7 +88,7 @@ returns-3 c =
     let too-many = c .before .before .before .before .before .before .before .before .before .before .before .before .before .before .too-many in
     let if2 = c .before .before .before .before .before .before .before .before .before .before .before .before .before .if2 in
     let serve = c .before .before .before .before .before .before .before .before .before .before .before .serve in
-    then-does (serve .ensures (waiters (start .args .k)) (waiters-line .ensures) ⨾ c .before .before .before .before .before .before .set-count .ensures) (c .before .before .accept .ensures) (λ s h. rw (← sem-at .ensures s (h .says), tooMany, countAfter, servedBy, countOf, if1 .left, ← line-length .ensures s (waiters (start .args .k)) (h .says) (waiters-line .ensures), ← served-by .ensures, ← too-many .ensures, if2 .left))
+    then-does (serve .ensures (waiters (c .before .before .before .before .before .before .before .before .before .before .before .before .before .before .before .before .before .before .before .before .before .before .before .before .args .k)) (waiters-line .ensures) ⨾ c .before .before .before .before .before .before .set-count .ensures) (c .before .before .accept .ensures) (λ s h. rw (← sem-at .ensures s (h .says), tooMany, countAfter, servedBy, countOf, if1 .left, ← line-length .ensures s (waiters (c .before .before .before .before .before .before .before .before .before .before .before .before .before .before .before .before .before .before .before .before .before .before .before .before .args .k)) (h .says) (waiters-line .ensures), ← served-by .ensures, ← too-many .ensures, if2 .left))
 
 pub post-spec : {M : Type 1} → statement M
 post-spec =

@@ -18,7 +18,7 @@ same-length : tie.Need-same-length
 same-length c = search needs
 
 returns : tie.Need-returns
-returns c = tells-as _ _ _ _ _ tickOf (leap (c .before .before .before .before .before .before .before .before .args .n)) (λ s h. (refl, refl), becomes-of (c .before .before .tick .ensures)) (λ s h.
+returns c = tells-as _ _ _ _ tickOf (leap (c .before .before .before .before .before .before .before .before .args .n)) (λ s h. (refl, refl), becomes-of (c .before .before .tick .ensures)) (λ s h.
     by-end (c .before .before .before .before .before .before .before .before .args .n) (c .before .before .before .before .before .quiet-of .result) s (sym (c .before .before .before .before .before .quiet-of .ensures s (h .says))) (c .before .before .before .before .if1 .taken))
 
 lock-requires : tie.Need-lock-requires
@@ -31,7 +31,7 @@ same-length-2 : tie.Need-same-length-2
 same-length-2 c = search needs
 
 returns-2 : tie.Need-returns-2
-returns-2 c = tells-as _ _ _ _ _ (lockedOf (c .before .before .before .before .before .before .before .before .quiet-of .result)) (leap (c .before .before .before .before .before .before .before .before .before .before .before .args .n)) (λ s h. (refl, refl), c .before .before .pass .ensures) (λ s h.
+returns-2 c = tells-as _ _ _ _ (lockedOf (c .before .before .before .before .before .before .before .before .quiet-of .result)) (leap (c .before .before .before .before .before .before .before .before .before .before .before .args .n)) (λ s h. (refl, refl), c .before .before .pass .ensures) (λ s h.
     by-lock (c .before .before .before .before .before .before .before .before .before .before .before .args .n) (c .before .before .before .before .before .before .before .before .quiet-of .result) s (sym (c .before .before .before .before .before .before .before .before .quiet-of .ensures s (h .says))) (c .before .before .before .before .before .before .before .if1 .left) (λ z. omega (arith, c .before .before .before .before .before .lock .ensures s (h .says), c .before .before .before .before .if2 .taken, z)))
 
 leap-unlocked-requires : tie.Need-leap-unlocked-requires
@@ -41,7 +41,7 @@ same-length-3 : tie.Need-same-length-3
 same-length-3 c = search needs
 
 returns-3 : tie.Need-returns-3
-returns-3 c = tells-as _ _ _ _ _ (leapUnlocked (c .before .before .before .before .before .before .before .before .quiet-of .result)) (leap (c .before .before .before .before .before .before .before .before .before .before .before .args .n)) (c .before .before .leap-unlocked .ensures) (λ s h.
+returns-3 c = tells-as _ _ _ _ (leapUnlocked (c .before .before .before .before .before .before .before .before .quiet-of .result)) (leap (c .before .before .before .before .before .before .before .before .before .before .before .args .n)) (c .before .before .leap-unlocked .ensures) (λ s h.
     by-rank (c .before .before .before .before .before .before .before .before .before .before .before .args .n) (c .before .before .before .before .before .before .before .before .quiet-of .result) s (sym (c .before .before .before .before .before .before .before .before .quiet-of .ensures s (h .says))) (c .before .before .before .before .before .before .before .if1 .left) (omega (arith, c .before .before .before .before .before .lock .ensures s (h .says), c .before .before .before .before .if2 .left)))
 
 pub leap-spec : {M : Type 1} → statement M

@@ -5,9 +5,7 @@ use mathlib.Core.List.{List}
 use Prim.Native.Nat.{ℕ, pred, _/_, _≤_, min}
 use native.Mathlib.Omega.{arith}
 use borrow.Author.Needs.{needs}
-use Rattle.rules.specs.Board.{printer}
 use Rattle.rules.specs.State.{State, at, caller, counterOf}
-use Rattle.rules.specs.Table.{decode}
 use Rattle.rules.specs.declared.Thread.{Thread}
 use Rattle.fairness.specs.Run.{sumTurns}
 use Rattle.leaps.specs.Ticks.{tickOf, roundsOf, turnOf, leapUnlocked}
@@ -15,17 +13,18 @@ use Rattle.leaps.proofs.Leaps.{round-some, rounds-most}
 use Rattle.sleep.proofs.Arms.{by-rounds, by-tick, by-turn}
 use Rattle.sleep.proofs.Leaping.{becomes-of, tells-as}
 use Rattle.sleep.proofs.leap_unlocked.Statement.{statement}
+use Rattle.layout.specs.Held.{said}
 use Rattle.sleep.proofs.leap_unlocked.Tie as tie
 
 -- what is read of the thread that runs
-module _ (t : List ℕ) {r : ℕ} {th : Thread} (runs : (s : State) → decode printer t ≡ s → r ≡ s .running) (reads : (s : State) → decode printer t ≡ s → th ≡ at (s .threads) r) where
-  own : (s : State) → decode printer t ≡ s → th ≡ caller s
+module _ (t : List ℕ) {r : ℕ} {th : Thread} (runs : (s : State) → said t ≡ s → r ≡ s .running) (reads : (s : State) → said t ≡ s → th ≡ at (s .threads) r) where
+  own : (s : State) → said t ≡ s → th ≡ caller s
   own s e = reads s e ∙ ap (at (s .threads)) (runs s e)
 
-  rank : (s : State) → decode printer t ≡ s → sumTurns (caller s .priority) (s .threads) ≡ sumTurns (th .priority) (decode printer t .threads)
+  rank : (s : State) → said t ≡ s → sumTurns (caller s .priority) (s .threads) ≡ sumTurns (th .priority) (said t .threads)
   rank s e = sym (λ i. sumTurns (own s e i .priority) (e i .threads))
 
-  counts : {left : ℕ} → left ≡ counterOf (th .wait) → (s : State) → decode printer t ≡ s → left ≡ counterOf (caller s .wait)
+  counts : {left : ℕ} → left ≡ counterOf (th .wait) → (s : State) → said t ≡ s → left ≡ counterOf (caller s .wait)
   counts left s e = left ∙ ap (λ x. counterOf (x .wait)) (own s e)
 
 running-requires : tie.Need-running-requires
@@ -55,7 +54,7 @@ returns : tie.Need-returns
 returns c =
     let q = c .before .before .before .before .before .before .before .before .before .before .before .before .args .q in
     let whole = c .before .before .before .before .before .round .result in
-    tells-as _ _ _ _ _ (roundsOf (q / whole) whole) (leapUnlocked q) (λ s h. (refl, refl), c .before .before .pass .ensures) (λ s h.
+    tells-as _ _ _ _ (roundsOf (q / whole) whole) (leapUnlocked q) (λ s h. (refl, refl), c .before .before .pass .ensures) (λ s h.
     by-rounds q s whole (rank _ (c .before .before .before .before .before .before .before .before .before .running .ensures) (c .before .before .before .before .before .before .before .load-thread .ensures) s (h .says) ∙ sym (c .before .before .before .before .before .round .ensures .0 (c .before .before .before .before .if1 .taken))) (c .before .before .before .before .if1 .taken))
 
 counter-of-requires : tie.Need-counter-of-requires
@@ -68,7 +67,7 @@ same-length-2 : tie.Need-same-length-2
 same-length-2 c = search needs
 
 returns-2 : tie.Need-returns-2
-returns-2 c = tells-as _ _ _ _ _ tickOf (leapUnlocked (c .before .before .before .before .before .before .before .before .before .before .before .before .before .before .args .q)) (λ s h. (refl, refl), becomes-of (c .before .before .tick .ensures)) (λ s h.
+returns-2 c = tells-as _ _ _ _ tickOf (leapUnlocked (c .before .before .before .before .before .before .before .before .before .before .before .before .before .before .args .q)) (λ s h. (refl, refl), becomes-of (c .before .before .tick .ensures)) (λ s h.
     by-tick (c .before .before .before .before .before .before .before .before .before .before .before .before .before .before .args .q) s (omega (arith, rank _ (c .before .before .before .before .before .before .before .before .before .before .before .running .ensures) (c .before .before .before .before .before .before .before .before .before .load-thread .ensures) s (h .says), c .before .before .before .before .before .before .before .round .ensures .1 (omega (arith, c .before .before .before .before .before .before .if1 .left))))
     (omega (arith, counts _ (c .before .before .before .before .before .before .before .before .before .before .before .running .ensures) (c .before .before .before .before .before .before .before .before .before .load-thread .ensures) (c .before .before .before .before .before .counter-of .ensures) s (h .says), c .before .before .before .before .if2 .taken)))
 
@@ -88,7 +87,7 @@ same-length-3 : tie.Need-same-length-3
 same-length-3 c = search needs
 
 returns-3 : tie.Need-returns-3
-returns-3 c = tells-as _ _ _ _ _ (turnOf (c .before .before .before .before .least .result)) (leapUnlocked (c .before .before .before .before .before .before .before .before .before .before .before .before .before .before .before .args .q)) (λ s h. (refl, refl), c .before .before .run-on .ensures) (λ s h.
+returns-3 c = tells-as _ _ _ _ (turnOf (c .before .before .before .before .least .result)) (leapUnlocked (c .before .before .before .before .before .before .before .before .before .before .before .before .before .before .before .args .q)) (λ s h. (refl, refl), c .before .before .run-on .ensures) (λ s h.
     let left = counts _ (c .before .before .before .before .before .before .before .before .before .before .before .before .running .ensures) (c .before .before .before .before .before .before .before .before .before .before .load-thread .ensures) (c .before .before .before .before .before .before .counter-of .ensures) s (h .says) in
     let far : min (c .before .before .before .before .before .before .before .before .before .before .before .before .before .before .before .args .q) (pred (counterOf (caller s .wait))) ≡ c .before .before .before .before .least .result = omega (arith, left, c .before .before .before .before .least .ensures) in
     by-turn (c .before .before .before .before .before .before .before .before .before .before .before .before .before .before .before .args .q) s (omega (arith, rank _ (c .before .before .before .before .before .before .before .before .before .before .before .before .running .ensures) (c .before .before .before .before .before .before .before .before .before .before .load-thread .ensures) s (h .says), c .before .before .before .before .before .before .before .before .round .ensures .1 (omega (arith, c .before .before .before .before .before .before .before .if1 .left)))) (omega (arith, left, c .before .before .before .before .before .if2 .left))

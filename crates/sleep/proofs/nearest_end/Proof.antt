@@ -1,32 +1,36 @@
 -- `sleep::nearest_end` meets its contract: from the last thread down, the nearest of those from i on is known. Assumes nothing.
 use mathlib.Core.Path.{_≡_, ap, sym, _∙_}
-use Prim.Native.Nat.{_≤_, _-_}
+use Prim.Native.Nat.{_≤_, _-_, _*_, _+_}
 use native.Mathlib.Omega.{arith}
 use borrow.Author.Needs.{needs}
-use lib.ListN.{drop}
-use Rattle.rules.specs.Board.{printer}
+use lib.ListN.{drop, length}
+use Rattle.rules.specs.Board.{recordLength}
 use Rattle.rules.specs.State.{State, at}
-use Rattle.rules.specs.Table.{decode}
 use Rattle.rules.specs.Sleep.{timeLeft, sooner, nearest}
-use Rattle.layout.proofs.Held.{said-on}
+use Rattle.layout.specs.Boards.{threadShare}
+use Rattle.layout.specs.Held.{said}
+use Rattle.layout.proofs.Boards.{sized}
 use Rattle.sleep.proofs.Ends.{nearest-none, nearest-turn}
 use Rattle.sleep.proofs.nearest_end.Statement.{statement}
 use Rattle.sleep.proofs.nearest_end.Tie as tie
 
 abbrev Inv-loop : tie.InvT-loop
-Inv-loop t i₀ n₀ i n = (i ≤ printer .threads) × ((s : State) → decode printer t ≡ s → n ≡ nearest (drop i (s .threads)))
+Inv-loop t i₀ n₀ i n = (i * threadShare + recordLength ≤ length t) × ((s : State) → said t ≡ s → n ≡ nearest (drop i (s .threads)))
 
 abbrev μ-loop : tie.MeasureT-loop
 μ-loop t i₀ n₀ i n = i
 
+threads-requires : tie.Need-threads-requires Inv-loop μ-loop
+threads-requires c κs = c .before .pre
+
 loop-holds : tie.Need-loop-holds Inv-loop μ-loop
-loop-holds c = (omega arith, λ s e. nearest-none 16 (s .threads) (said-on printer _ e .threads))
+loop-holds c = (omega (arith, c .threads .ensures), λ s e. nearest-none (c .threads .result) (s .threads) (omega (arith, c .threads .ensures, sized (c .before .before .pre) e .threads)))
 
 sub-i : tie.Need-sub-i Inv-loop μ-loop
 sub-i c = omega arith
 
 left-of-requires : tie.Need-left-of-requires Inv-loop μ-loop
-left-of-requires c κs = (omega (arith, c .before .loop .inv .0), c .before .before .before .pre)
+left-of-requires c κs = (omega (arith, c .before .loop .inv .0), c .before .before .before .before .pre)
 
 sooner-requires : tie.Need-sooner-requires Inv-loop μ-loop
 sooner-requires c κs = search needs
@@ -42,7 +46,7 @@ loop-again c =
       λ s e.
           c .sooner .ensures ∙ ap (λ k. sooner k (c .before .before .before .loop .n)) (c .before .left-of .ensures s e)
           ∙ ap (sooner (timeLeft (at (s .threads) (i - 1) .wait))) (inv .1 s e)
-          ∙ sym (nearest-turn i (s .threads) (c .before .before .loop-test .taken) (omega (arith, inv .0, said-on printer _ e .threads))),
+          ∙ sym (nearest-turn i (s .threads) (c .before .before .loop-test .taken) (omega (arith, inv .0, sized (c .before .before .before .before .before .before .pre) e .threads))),
     )
 
 returns : tie.Need-returns Inv-loop μ-loop
@@ -54,6 +58,7 @@ nearest-end-spec =
     (tie.spec
     Inv-loop
     μ-loop
+    threads-requires
     loop-holds
     sub-i
     left-of-requires

@@ -3,11 +3,12 @@ use mathlib.Core.Path.{sym, _∙_}
 use borrow.Author.Tests.{not-true, not-false}
 use borrow.Author.Needs.{needs}
 use Rattle.rules.specs.Test.{initOk}
+use Rattle.layout.proofs.Boards.{counted}
 use Rattle.sound.proofs.init_ok.Statement.{statement}
 use Rattle.sound.proofs.init_ok.Tie as tie
 
 load-thread-requires : tie.Need-load-thread-requires
-load-thread-requires c κs = search needs
+load-thread-requires c κs = (counted _ (c .before .pre) .some, c .before .pre)
 
 is-ready-requires : tie.Need-is-ready-requires
 is-ready-requires c κs = search needs

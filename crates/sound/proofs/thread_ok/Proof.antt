@@ -1,15 +1,12 @@
 -- `sound::thread_ok` meets its contract: each test that fails decides, and else the thread is noted; a free record is all zero. Assumes nothing.
 use mathlib.Core.Path.{refl, ap, sym, _∙_}
-use native.Mathlib.Omega.{arith}
 use borrow.Author.Tests.{not-true, not-false}
 use borrow.Author.Needs.{needs}
-use Rattle.rules.specs.Board.{printer}
 use Rattle.rules.specs.Lines.{line}
 use Rattle.laws.proofs.Split.{clash}
-use Rattle.layout.proofs.RoundTrip.{on-decode}
 use Rattle.marks.specs.Numbers.{lineNumber}
 use Rattle.ready.specs.Word.{readyBit}
-use Rattle.sound.proofs.Noting.{notes}
+use Rattle.sound.proofs.Noting.{room, notes}
 use Rattle.sound.proofs.Threads.{used-number, decides-as, fails, used-fails, used-ends, zero-free, free-noted, free-ends}
 use Rattle.sound.proofs.thread_ok.Statement.{statement}
 use Rattle.sound.proofs.thread_ok.Tie as tie
@@ -54,13 +51,13 @@ returns-4 c s e old = (
 )
 
 number-of-requires : tie.Need-number-of-requires
-number-of-requires c κs = used-number _ (on-decode printer _) _ _ (not-false _ (c .before .before .before .before .if1 .left)) (sym (c .before .used-ok .ensures _ refl) ∙ not-false _ (c .if4 .left))
+number-of-requires c κs = used-number (c .before .before .before .before .before .before .before .before .before .before .pre .1) _ refl _ _ (not-false _ (c .before .before .before .before .if1 .left)) (sym (c .before .used-ok .ensures _ refl) ∙ not-false _ (c .if4 .left))
 
 slice-write-numbers : tie.Need-slice-write-numbers
-slice-write-numbers c = search needs
+slice-write-numbers c = room (c .before .before .before .before .before .before .before .before .before .before .before .pre .1) _ (c .before .before .before .before .before .before .before .before .before .before .before .pre .0) (c .before .before .before .before .before .before .before .before .before .before .before .pre .2)
 
 slice-write-places : tie.Need-slice-write-places
-slice-write-places c = search needs
+slice-write-places c = room (c .before .before .before .before .before .before .before .before .before .before .before .pre .1) _ (c .before .before .before .before .before .before .before .before .before .before .before .pre .0) (c .before .before .before .before .before .before .before .before .before .before .before .pre .3)
 
 ready-bit-requires : tie.Need-ready-bit-requires
 ready-bit-requires c κs = search needs
@@ -76,7 +73,7 @@ returns-5 c s e old =
     let th = c .before .before .before .before .before .before .before .before .load-thread .ensures s e in (
       used-ends s (c .before .before .before .before .before .before .before .before .before .before .before .before .args .i) th (not-false _ (c .before .before .before .before .before .before .if1 .left)) (sym (c .before .before .before .before .before .thread-canon .ensures) ∙ not-false _ (c .before .before .before .before .if3 .left)) (sym (c .before .before .before .used-ok .ensures s e) ∙ not-false _ (c .before .before .if4 .left)),
       λ z. (
-        notes old (omega (arith, c .before .before .before .before .before .before .before .before .before .before .before .before .pre .2)) (omega (arith, c .before .before .before .before .before .before .before .before .before .before .before .before .pre .3)) (c .before .number-of .ensures ∙ ap (λ th. lineNumber (line th)) th) (ap (λ th. th .place) th),
+        notes old (room (c .before .before .before .before .before .before .before .before .before .before .before .before .pre .1) _ (c .before .before .before .before .before .before .before .before .before .before .before .before .pre .0) (c .before .before .before .before .before .before .before .before .before .before .before .before .pre .2)) (room (c .before .before .before .before .before .before .before .before .before .before .before .before .pre .1) _ (c .before .before .before .before .before .before .before .before .before .before .before .before .pre .0) (c .before .before .before .before .before .before .before .before .before .before .before .before .pre .3)) (c .before .number-of .ensures ∙ ap (λ th. lineNumber (line th)) th) (ap (λ th. th .place) th),
         c .ready-bit .ensures ∙ ap readyBit th,
       ),
     )

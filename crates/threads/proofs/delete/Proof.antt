@@ -1,7 +1,6 @@
 -- `threads::delete` meets its contract: each way out is a branch of the rule. Assumes nothing.
 use borrow.Author.Needs.{needs}
 use Rattle.rules.specs.Threads.{doDelete}
-use Rattle.rules.specs.Board.{printer}
 use Rattle.waiting.proofs.Doing.{does-nothing, then-does}
 use Rattle.waiting.proofs.There.{there}
 use Rattle.threads.proofs.delete.Statement.{statement}
@@ -30,7 +29,7 @@ returns-2 c = does-nothing (c .before .before .before .before .before .before .b
 delete-thread-requires : tie.Need-delete-thread-requires
 delete-thread-requires c κs =
     let start = c .before .before .before .before .before .before .before .before in
-    (there printer _ (start .args .i) (c .before .before .before .before .before .no-thread .ensures) (c .before .before .before .before .if1 .left), start .pre .whole)
+    (there (c .before .before .before .before .before .before .before .before .pre .whole .long) (start .args .i) (c .before .before .before .before .before .no-thread .ensures) (c .before .before .before .before .if1 .left), start .pre .whole)
 
 accept-requires : tie.Need-accept-requires
 accept-requires c κs = search needs

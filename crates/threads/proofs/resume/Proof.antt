@@ -5,7 +5,6 @@ use borrow.Author.Needs.{needs}
 use Rattle.rules.specs.Threads.{doResume}
 use Rattle.rules.specs.State.{withSuspended}
 use Rattle.rules.specs.Lines.{line}
-use Rattle.rules.specs.Board.{printer}
 use Rattle.laws.proofs.Lines.{line-suspended}
 use Rattle.waiting.proofs.Doing.{does-nothing, then-does}
 use Rattle.waiting.proofs.There.{read-there}
@@ -35,7 +34,7 @@ is-waiting-requires c κs = search needs
 edit-suspended-requires : tie.Need-edit-suspended-requires
 edit-suspended-requires c κs =
     let th = c .before .before .before .before .before .before .before .thread-at in (
-      read-there printer _ (c .before .before .before .before .before .before .before .before .before .before .args .i) (th .ensures) (c .before .before .before .before .before .if1 .left),
+      read-there (c .before .before .before .before .before .before .before .before .before .before .pre .whole .long) (c .before .before .before .before .before .before .before .before .before .before .args .i) (th .ensures) (c .before .before .before .before .before .if1 .left),
       c .before .before .before .before .before .before .before .before .before .before .pre .whole,
       λ s e. subst (λ x. line (withSuspended false x) ≡ line x) (th .ensures s e) (line-suspended false (th .result) (sym (c .before .before .is-waiting .ensures) ∙ c .before .if3 .taken)),
     )
@@ -59,7 +58,7 @@ returns-3 c =
 restart-requires : tie.Need-restart-requires
 restart-requires c κs =
     let start = c .before .before .before .before .before .before .before .before .before .before in
-    (read-there printer _ (start .args .i) (c .before .before .before .before .before .before .before .thread-at .ensures) (c .before .before .before .before .before .if1 .left), start .pre .whole)
+    (read-there (c .before .before .before .before .before .before .before .before .before .before .pre .whole .long) (start .args .i) (c .before .before .before .before .before .before .before .thread-at .ensures) (c .before .before .before .before .before .if1 .left), start .pre .whole)
 
 accept-requires-2 : tie.Need-accept-requires-2
 accept-requires-2 c κs = search needs

@@ -6,7 +6,7 @@ use borrow.Author.Tests.{lt-ltb, le-ltb, eq-eqb, ne-eqb}
 use borrow.Author.Needs.{needs}
 use Rattle.rules.specs.Threads.{doSetPriority}
 use Rattle.rules.specs.State.{at, isReady}
-use Rattle.rules.specs.Board.{printer, topPriority}
+use Rattle.rules.specs.Board.{topPriority}
 use Rattle.laws.proofs.Lines.{line-priority}
 use Rattle.waiting.proofs.Doing.{does-nothing, then-does}
 use Rattle.waiting.proofs.There.{read-there}
@@ -38,7 +38,7 @@ changes-line-requires : tie.Need-changes-line-requires
 changes-line-requires c κs = search needs
 
 move-priority-requires : tie.Need-move-priority-requires
-move-priority-requires c κs = (read-there printer _ (c .before .before .before .before .before .before .before .before .before .before .args .i) (c .before .before .before .before .before .before .thread-at .ensures) (c .before .before .before .before .if2 .left), c .before .before .before .before .before .before .before .before .before .before .pre .whole)
+move-priority-requires c κs = (read-there (c .before .before .before .before .before .before .before .before .before .before .pre .whole .long) (c .before .before .before .before .before .before .before .before .before .before .args .i) (c .before .before .before .before .before .before .thread-at .ensures) (c .before .before .before .before .if2 .left), c .before .before .before .before .before .before .before .before .before .before .pre .whole)
 
 accept-requires : tie.Need-accept-requires
 accept-requires c κs = search needs
@@ -55,7 +55,7 @@ returns-4 c =
 edit-priority-requires : tie.Need-edit-priority-requires
 edit-priority-requires c κs =
     let a = c .before .before .before .before .before .before .before .before .before .before .args in (
-      read-there printer _ (a .i) (c .before .before .before .before .before .before .thread-at .ensures) (c .before .before .before .before .if2 .left),
+      read-there (c .before .before .before .before .before .before .before .before .before .before .pre .whole .long) (a .i) (c .before .before .before .before .before .before .thread-at .ensures) (c .before .before .before .before .if2 .left),
       c .before .before .before .before .before .before .before .before .before .before .pre .whole,
       λ s e. line-priority (a .priority) (at (s .threads) (a .i))
           (ap (λ x. isReady x && not (eqb (x .priority) (a .priority))) (sym (c .before .before .before .before .before .before .thread-at .ensures s e)) ∙ sym (c .before .before .changes-line .ensures) ∙ c .before .if4 .left),

@@ -2,7 +2,6 @@
 use borrow.Author.Tests.{eq-eqb, ne-eqb}
 use borrow.Author.Needs.{needs}
 use Rattle.rules.specs.Threads.{doSetTurn}
-use Rattle.rules.specs.Board.{printer}
 use Rattle.waiting.proofs.Doing.{does-nothing, then-does}
 use Rattle.waiting.proofs.There.{there}
 use Rattle.threads.proofs.set_turn.Statement.{statement}
@@ -33,7 +32,7 @@ unfolding doSetTurn
 returns-3 c = does-nothing (c .before .before .before .before .before .before .before .pre .whole) (λ s e. rw (← c .before .before .before .before .before .bad-ticks .ensures, c .before .before .before .before .if1 .left, ← c .before .before .no-thread .ensures s e, c .before .if2 .left, eq-eqb (c .before .before .before .before .before .before .before .args .i) 0 (c .if3 .taken)))
 
 edit-turn-requires : tie.Need-edit-turn-requires
-edit-turn-requires c κs = (there printer _ (c .before .before .before .before .before .before .before .before .args .i) (c .before .before .before .no-thread .ensures) (c .before .before .if2 .left), c .before .before .before .before .before .before .before .before .pre .whole)
+edit-turn-requires c κs = (there (c .before .before .before .before .before .before .before .before .pre .whole .long) (c .before .before .before .before .before .before .before .before .args .i) (c .before .before .before .no-thread .ensures) (c .before .before .if2 .left), c .before .before .before .before .before .before .before .before .pre .whole)
 
 accept-requires : tie.Need-accept-requires
 accept-requires c κs = search needs

@@ -6,7 +6,6 @@ use borrow.Author.Needs.{needs}
 use Rattle.rules.specs.Threads.{doSuspend}
 use Rattle.rules.specs.State.{withSuspended}
 use Rattle.rules.specs.Lines.{line}
-use Rattle.rules.specs.Board.{printer}
 use Rattle.laws.proofs.Lines.{line-suspended, unready-waits}
 use Rattle.waiting.proofs.Doing.{does-nothing, then-does}
 use Rattle.waiting.proofs.There.{read-there}
@@ -49,7 +48,7 @@ stop-requires : tie.Need-stop-requires
 stop-requires c κs =
     let start = c .before .before .before .before .before .before .before .before .before .before .before .before in
     let thread-at = c .before .before .before .before .before .before .before .before .before .thread-at in
-    (read-there printer _ (start .args .i) (thread-at .ensures) (c .before .before .before .before .before .before .before .if1 .left), start .pre .whole)
+    (read-there (c .before .before .before .before .before .before .before .before .before .before .before .before .pre .whole .long) (start .args .i) (thread-at .ensures) (c .before .before .before .before .before .before .before .if1 .left), start .pre .whole)
 
 accept-requires : tie.Need-accept-requires
 accept-requires c κs = search needs
@@ -72,7 +71,7 @@ returns-4 c =
 edit-suspended-requires : tie.Need-edit-suspended-requires
 edit-suspended-requires c κs =
     let th = c .before .before .before .before .before .before .before .before .before .thread-at in (
-      read-there printer _ (c .before .before .before .before .before .before .before .before .before .before .before .before .args .i) (th .ensures) (c .before .before .before .before .before .before .before .if1 .left),
+      read-there (c .before .before .before .before .before .before .before .before .before .before .before .before .pre .whole .long) (c .before .before .before .before .before .before .before .before .before .before .before .before .args .i) (th .ensures) (c .before .before .before .before .before .before .before .if1 .left),
       c .before .before .before .before .before .before .before .before .before .before .before .before .pre .whole,
       λ s e. subst (λ x. line (withSuspended true x) ≡ line x) (th .ensures s e)
           (line-suspended true (th .result) (unready-waits (th .result) (not-false _ (c .before .before .before .before .before .before .before .if1 .left)) (c .before .before .before .before .before .before .if2 .left) (sym (c .before .before .is-ready .ensures) ∙ c .before .if4 .left))),

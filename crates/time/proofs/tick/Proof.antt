@@ -1,7 +1,10 @@
 -- `time::tick` meets its contract: the charge comes first, then the waits. Assumes nothing.
+use mathlib.Core.Path.{_≡_}
+use native.Mathlib.Omega.{arith}
 use borrow.Author.Needs.{needs}
-use Rattle.rules.specs.Time.{doTick}
-use Rattle.layout.proofs.Held.{_⨾_, holds-on}
+use lib.ListN.{length}
+use Rattle.rules.specs.Time.{charged, doTick}
+use Rattle.layout.proofs.Held.{_⨾_, holds-sized}
 use Rattle.waiting.proofs.Doing.{then-does}
 use Rattle.time.proofs.tick.Statement.{statement}
 use Rattle.time.proofs.tick.Tie as tie
@@ -21,8 +24,10 @@ same-length c = search needs
 returns : tie.Need-returns
 unfolding doTick
 returns c =
-    let charged = c .before .before .before .before .before .before .before .before .before .before .charged in
-    then-does (charged .ensures ⨾ c .before .before .before .before .before .before .timeouts .ensures) (c .before .before .accept .ensures) (λ s h. rw (holds-on h .threads))
+    let due = c .before .before .before .before .before .before .before .before .before .before .charged in
+    then-does (due .ensures ⨾ c .before .before .before .before .before .before .timeouts .ensures) (c .before .before .accept .ensures) (λ s h.
+    let same : length (charged s) ≡ length (s .threads) = omega (arith, holds-sized h .threads, holds-sized (due .ensures .holds s h) .threads, due .kept) in
+    rw same)
 
 pub tick-spec : {M : Type 1} → statement M
 tick-spec =

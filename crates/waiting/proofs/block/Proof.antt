@@ -4,7 +4,6 @@ use mathlib.Core.Path.{_≡_, refl, sym, ap, subst, _∙_}
 use Prim.Native.Nat.{pred}
 use native.Mathlib.Omega.{arith}
 use borrow.Author.Needs.{needs}
-use Rattle.rules.specs.Board.{printer}
 use Rattle.rules.specs.State.{State, at, withThreads}
 use Rattle.rules.specs.Lines.{move, settle}
 use Rattle.rules.specs.Waiting.{begun, ahead, block}
@@ -40,7 +39,7 @@ returns c =
     let change = c .before .before .before .before .before .before .before .change-wait in
     let w = start .args .w in
     let x = start .args .parcel in
-    let told : (s : State) → Holds printer _ s → ahead s w ≡ c .ahead-of .result = λ s h.
+    let told : (s : State) → Holds _ s → ahead s w ≡ c .ahead-of .result = λ s h.
     ahead-place s w x (subst Sound (h .says) (start .pre .1 .sound)) (start .pre .0)
     ∙ ap (λ i. pred (at (move i (begun w x) (s .threads)) i .place)) (sym (running .ensures s (h .says)))
     ∙ ap pred (sym (change .ensures .0 (withThreads (move (running .result) (begun w x) (s .threads)) s) (change .ensures .1 .holds s h .says)))

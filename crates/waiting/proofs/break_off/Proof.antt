@@ -1,10 +1,10 @@
 -- `waiting::break_off` meets its contract: each way out is a branch of the rule. Assumes nothing.
 use borrow.Author.Needs.{needs}
 use Rattle.rules.specs.Threads.{breakOff}
-use Rattle.rules.specs.Board.{printer}
 use Rattle.waiting.proofs.Doing.{does-nothing, then-does}
 use Rattle.waiting.proofs.There.{there}
 use Rattle.waiting.proofs.break_off.Statement.{statement}
+use Rattle.layout.proofs.Boards.{no-thread}
 use Rattle.waiting.proofs.break_off.Tie as tie
 
 no-thread-requires : tie.Need-no-thread-requires
@@ -25,7 +25,7 @@ unfolding breakOff
 returns-2 c = does-nothing (c .before .before .before .before .before .pre .whole) (λ s e. rw (← c .before .before .no-thread .ensures s e, c .before .if1 .left, c .if2 .taken))
 
 end-wait-requires : tie.Need-end-wait-requires
-end-wait-requires c κs = (there printer _ (c .before .before .before .before .before .before .args .i) (c .before .before .before .no-thread .ensures) (c .before .before .if1 .left), c .before .before .before .before .before .before .pre .whole)
+end-wait-requires c κs = (there (c .before .before .before .before .before .before .pre .whole .long) (c .before .before .before .before .before .before .args .i) (c .before .before .before .no-thread .ensures) (c .before .before .if1 .left), c .before .before .before .before .before .before .pre .whole)
 
 accept-requires : tie.Need-accept-requires
 accept-requires c κs = search needs

@@ -1,5 +1,6 @@
 -- `waiting::change_wait` meets its contract: what is written between the two lines is one change of the thread, and the place is the one that
 -- `lines::join` gives. Assumes nothing.
+use native.Mathlib.Omega.{arith}
 use borrow.Author.Needs.{needs}
 use Rattle.rules.specs.Lines.{move}
 use Rattle.rules.specs.State.{withWait, withOutcome}
@@ -26,13 +27,12 @@ same-length c = search needs
 returns : tie.Need-returns
 unfolding move
 returns c =
-    let start = c .before .before .before .before .before .before .before .before .before .before .before .before .before .before .before .before .before in
     let leave = c .before .before .before .before .before .before .before .before .before .before .before .before .before .before .leave in
     let set-wait = c .before .before .before .before .before .before .before .before .before .before .set-wait in
     let set-outcome = c .before .before .before .before .before .before .set-outcome in
     let join = c .before .before .join in (
-      joined (start .args .i) (start .pre .0) (set-outcome .ensures .whole) (join .ensures .0) (join .ensures .1),
-      leave .ensures .1 ⨾ edits (start .args .i) (withWait (start .args .w)) (withOutcome (start .args .outcome) (start .args .parcel)) (start .pre .0) (set-wait .ensures) (set-outcome .ensures) ⨾ join .ensures .1,
+      joined (c .before .before .before .before .before .before .before .before .before .before .before .before .before .before .before .before .before .args .i) (omega (arith, c .before .before .before .before .before .before .before .before .before .before .before .before .before .before .before .before .before .pre .0, leave .kept, set-wait .kept, set-outcome .kept)) (set-outcome .ensures .whole) (join .ensures .0) (join .ensures .1),
+      leave .ensures .1 ⨾ edits (c .before .before .before .before .before .before .before .before .before .before .before .before .before .before .before .before .before .args .i) (withWait (c .before .before .before .before .before .before .before .before .before .before .before .before .before .before .before .before .before .args .w)) (withOutcome (c .before .before .before .before .before .before .before .before .before .before .before .before .before .before .before .before .before .args .outcome) (c .before .before .before .before .before .before .before .before .before .before .before .before .before .before .before .before .before .args .parcel)) (omega (arith, c .before .before .before .before .before .before .before .before .before .before .before .before .before .before .before .before .before .pre .0, leave .kept)) (set-wait .ensures) (set-outcome .ensures) ⨾ join .ensures .1,
     )
 
 pub change-wait-spec : {M : Type 1} → statement M

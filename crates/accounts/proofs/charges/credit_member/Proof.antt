@@ -1,19 +1,20 @@
 -- `accounts::charges::credit_member` meets its contract: who is ready and of that priority is of the rank. Assumes nothing.
 use mathlib.Core.Bool.{true, false}
-use mathlib.Core.Path.{_≡_, refl, sym, ap, _∙_}
+use mathlib.Core.Path.{_≡_, sym, ap, _∙_}
 use Prim.Native.Nat.{_+_}
 use native.Mathlib.Omega.{arith}
 use borrow.Author.Needs.{needs}
 use denote.Ref.{now}
 use lib.ListN.{set}
 use Rattle.rules.specs.Lines.{ready, inLine}
+use Rattle.layout.proofs.Boards.{printer-long, said-printer}
 use Rattle.lanes.specs.Kept.{of}
 use Rattle.accounts.proofs.Credits.{turns-in, none-added}
 use Rattle.accounts.proofs.charges.credit_member.Statement.{statement}
 use Rattle.accounts.proofs.charges.credit_member.Tie as tie
 
 load-thread-requires : tie.Need-load-thread-requires
-load-thread-requires c κs = search needs
+load-thread-requires c κs = (omega arith, printer-long (c .before .before .pre .0 .2))
 
 in-rank-requires : tie.Need-in-rank-requires
 in-rank-requires c κs = search needs
@@ -26,7 +27,7 @@ mul-accounts c =
     let start = c .before .before .before .before .before .before in
     let th = c .before .before .before .load-thread .result in
     let m : inLine (ready (start .args .priority)) th ≡ true = sym (c .before .before .in-rank .ensures) ∙ c .before .if1 .taken in
-    let turns = turns-in (start .args .priority) (start .args .rounds) th _ (c .before .before .before .load-thread .ensures _ refl) m in
+    let turns = turns-in (start .args .priority) (start .args .rounds) th _ (c .before .before .before .load-thread .ensures _ (said-printer _ (start .pre .0 .2))) m in
     record { fits = omega (arith, turns, start .pre .1) }
 
 mul-accounts-2 : tie.Need-mul-accounts-2
@@ -40,7 +41,7 @@ add-accounts c =
     let start = c .before .before .before .before .before .before .before in
     let th = c .before .before .before .before .load-thread .result in
     let m : inLine (ready (start .args .priority)) th ≡ true = sym (c .before .before .before .in-rank .ensures) ∙ c .before .before .if1 .taken in
-    let turns = turns-in (start .args .priority) (start .args .rounds) th _ (c .before .before .before .before .load-thread .ensures _ refl) m in
+    let turns = turns-in (start .args .priority) (start .args .rounds) th _ (c .before .before .before .before .load-thread .ensures _ (said-printer _ (start .pre .0 .2))) m in
     record { fits = omega (arith, turns, start .pre .1) }
 
 slice-write-accounts : tie.Need-slice-write-accounts
@@ -54,7 +55,7 @@ returns c =
     let start = c .before .before .before .before .before .before .before in
     let th = c .before .before .before .before .load-thread .result in
     let m : inLine (ready (start .args .priority)) th ≡ true = sym (c .before .before .before .in-rank .ensures) ∙ c .before .before .if1 .taken in
-    let turns = turns-in (start .args .priority) (start .args .rounds) th _ (c .before .before .before .before .load-thread .ensures _ refl) m in
+    let turns = turns-in (start .args .priority) (start .args .rounds) th _ (c .before .before .before .before .load-thread .ensures _ (said-printer _ (start .pre .0 .2))) m in
     let ns = now (start .args .accounts) in
     ap (λ n. set ns (start .args .i) (of ns (start .args .i) + n)) turns
 
@@ -63,7 +64,7 @@ returns-2 c =
     let start = c .before .before .before .before .before in
     let th = c .before .before .load-thread .result in
     let m : inLine (ready (start .args .priority)) th ≡ false = sym (c .before .in-rank .ensures) ∙ c .if1 .left in
-    none-added (start .args .priority) (start .args .rounds) th _ (c .before .before .load-thread .ensures _ refl) m (now (start .args .accounts)) (start .args .i)
+    none-added (start .args .priority) (start .args .rounds) th _ (c .before .before .load-thread .ensures _ (said-printer _ (start .pre .0 .2))) m (now (start .args .accounts)) (start .args .i)
 
 pub credit-member-spec : {M : Type 1} → statement M
 credit-member-spec =

@@ -5,11 +5,10 @@ use Prim.Native.Nat.{ℕ, _+_, _-_, _≤_}
 use native.Mathlib.Omega.{arith}
 use denote.Ref.{now}
 use lib.ListN.{length}
-use Rattle.rules.specs.Board.{printer}
 use Rattle.rules.specs.State.{State}
-use Rattle.rules.specs.Table.{decode}
 use Rattle.rules.specs.Sleep.{ticks}
-use Rattle.layout.specs.Held.{Holds, Becomes}
+use Rattle.layout.specs.Held.{said, Holds, Becomes}
+use Rattle.layout.proofs.Boards.{said-printer}
 use Rattle.layout.proofs.Held.{_⨾_, whole-holds, becomes-as, becomes-same}
 use Rattle.waiting.specs.Does.{Serves}
 use Rattle.leaps.specs.Ticks.{leap}
@@ -28,14 +27,14 @@ none-yet : (n : ℕ) (s : State) (ns : List ℕ) → ns ≡ accountsFrom 0 ns (t
 unfolding tickEvents
 none-yet n s ns = let none : n - n ≡ 0 = omega arith in sym (ap (λ k. accountsFrom 0 ns (tickEvents k s)) none ∙ accounts-none 0 ns)
 
-one-leap : {t t′ : List ℕ} {n far : ℕ} → Serves printer t → 1 ≤ n → ((s : State) → Holds printer t s → far ≡ leap n s .far)
-    → Becomes printer t t′ (λ s. leap n s .state) → Leapt printer t t′ n far
+one-leap : {t t′ : List ℕ} {n far : ℕ} → Serves t → 1 ≤ n → ((s : State) → Holds t s → far ≡ leap n s .far)
+    → Becomes t t′ (λ s. leap n s .state) → Leapt t t′ n far
 one-leap {t} {t′} {n} v h told c = leapt v h (λ s k. (told s k, ap (λ s. leap n s .rounds) (k .says))) c
 
 abbrev Inv-loop : tie.InvT-loop
 Inv-loop accounts₀ t₀ n left₀ accounts t left =
-    (left ≤ n) × Serves printer t × Becomes printer t₀ t (ticks (n - left)) × (length accounts ≡ length accounts₀)
-    × (accounts ≡ accountsFrom 0 accounts₀ (tickEvents (n - left) (decode printer t₀)))
+    (left ≤ n) × Serves t × Becomes t₀ t (ticks (n - left)) × (length accounts ≡ length accounts₀)
+    × (accounts ≡ accountsFrom 0 accounts₀ (tickEvents (n - left) (said t₀))) × (length t ≡ length t₀)
 
 abbrev μ-loop : tie.MeasureT-loop
 μ-loop accounts₀ t₀ n left₀ accounts t left = left
@@ -45,10 +44,11 @@ loop-holds c =
     let start = c .before .before in
     let n = start .args .n in (
       omega arith,
-      start .pre .0,
-      becomes-same (start .pre .0 .whole) (λ s h. ticks-none n s),
+      start .pre .0 .1,
+      becomes-same (start .pre .0 .1 .whole) (λ s h. ticks-none n s),
       refl,
-      none-yet n (decode printer (now (start .args .t))) (now (start .args .accounts)),
+      none-yet n (said (now (start .args .t))) (now (start .args .accounts)),
+      refl,
     )
 
 enter-leap-requires : tie.Need-enter-leap-requires Inv-loop μ-loop
@@ -57,11 +57,12 @@ enter-leap-requires c κs =
     let inv = c .before .before .before .loop .inv in
     let done = start .args .n - c .before .before .before .loop .left in
     let ns = now (start .args .accounts) in
-    let run = tickEvents done (decode printer (now (start .args .t))) in (
-      (inv .1, c .before .before .loop-test .taken),
+    let s₀ = said (now (start .args .t)) in
+    let run = tickEvents done s₀ in (
+      (inv .5 ∙ start .pre .0 .0, inv .1, c .before .before .loop-test .taken),
       (
         inv .3 ∙ start .pre .1 .0,
-        λ i. omega (arith, ap (λ l. of l i) (inv .4), grown 0 ns run i, length-ticks done (decode printer (now (start .args .t))), inv .0, start .pre .1 .1 i),
+        λ i. omega (arith, ap (λ l. of l i) (inv .4), grown 0 ns run i, length-ticks done s₀, inv .0, start .pre .1 .1 i),
       ),
     )
 
@@ -80,10 +81,10 @@ loop-again c =
     let entered = c .before .before .before .before .enter-leap in
     let far = entered .result in
     let l = one-leap (inv .1) (c .before .before .before .before .before .before .before .loop-test .taken) (entered .ensures .0) (entered .ensures .1 .0) in
-    let s₀ = decode printer (now (start .args .t)) in
+    let s₀ = said (now (start .args .t)) in
     let ns = now (start .args .accounts) in
     let s = ticks (n - left) s₀ in
-    let h = inv .2 .holds s₀ (whole-holds (start .pre .0 .whole)) in
+    let h = inv .2 .holds s₀ (whole-holds (start .pre .0 .1 .whole)) in
     let all : n - left + leap left s .far ≡ n - (left - far) = omega (arith, entered .ensures .0 s h, inv .0, l .most) in (
       omega (arith, inv .0),
       serves-after far (inv .1) (l .ticks),
@@ -91,19 +92,21 @@ loop-again c =
       entered .kept .0 ∙ inv .3,
       entered .ensures .1 .1 s h ∙ ap (credited s (leap left s)) (inv .4) ∙ sym (by-leaps (n - left) left s₀ ns (rw (h .says) at (inv .1 .sound)) (c .before .before .before .before .before .before .before .loop-test .taken))
           ∙ ap (λ k. accountsFrom 0 ns (tickEvents k s₀)) all,
+      entered .kept .1 .0 ∙ inv .5,
     )
 
 same-length : tie.Need-same-length Inv-loop μ-loop
 same-length c = c .before .loop .inv .3
 
 same-length-2 : tie.Need-same-length-2 Inv-loop μ-loop
-same-length-2 c = c .before .loop .inv .1 .whole .long ∙ sym (c .before .before .before .before .pre .0 .whole .long)
+same-length-2 c = c .before .loop .inv .5
 
 returns : tie.Need-returns Inv-loop μ-loop
 returns c =
     let start = c .before .before .before .before in
     let all : start .args .n - c .before .loop .left ≡ start .args .n = omega (arith, c .loop-test .left) in
-    c .before .loop .inv .4 ∙ ap (λ k. accountsFrom 0 (now (start .args .accounts)) (tickEvents k (decode printer (now (start .args .t))))) all
+    let says = said-printer _ (start .pre .0 .0) in
+    c .before .loop .inv .4 ∙ (λ j. accountsFrom 0 (now (start .args .accounts)) (tickEvents (all j) (says j)))
 
 pub enter-ticks-spec : {M : Type 1} → statement M
 enter-ticks-spec =
