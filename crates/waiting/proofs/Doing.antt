@@ -5,11 +5,11 @@ use mathlib.Core.List.{List}
 use Prim.Native.Nat.{ℕ}
 use native.Mathlib.Omega.{arith}
 use Rattle.rules.specs.State.{State}
-use Rattle.rules.specs.Sound.{Sound}
+use Rattle.rules.specs.Sound.{Sound, SoundTable}
 use Rattle.rules.specs.Waiting.{Step}
 use Rattle.rules.specs.declared.Answer.{Answer}
 use Rattle.laws.proofs.Top.{sound-running}
-use Rattle.layout.specs.Held.{said, Holds, Whole, Becomes}
+use Rattle.layout.specs.Held.{board, said, Holds, Whole, Becomes}
 use Rattle.layout.proofs.Boards.{sized}
 use Rattle.layout.proofs.Held.{whole-holds}
 use Rattle.waiting.specs.Does.{Serves, Does}
@@ -17,6 +17,11 @@ use Rattle.waiting.specs.Does.{Serves, Does}
 -- a whole table that says a sound state can be served
 pub serves : {t : List ℕ} → Whole t → Sound (said t) → Serves t
 serves {t} w σ = record { whole = w; runs = omega (arith, sound-running (said t) σ, sized (w .long) refl .threads); sound = σ }
+
+-- so can a sound table
+pub sound-serves : (t : List ℕ) → SoundTable (board t) t → Serves t
+unfolding said
+sound-serves t h = serves (record { long = record { fits = h .long }; meaning = h .meaning }) (h .state)
 
 -- what a rule gives, by the state alone
 abbrev pub gives : State → Answer → Step

@@ -8,13 +8,13 @@ use borrow.Author.Needs.{needs}
 use denote.Ref.{now}
 use lib.ListN.{length, take, drop}
 use Rattle.rules.specs.Board.{printer}
-use Rattle.rules.specs.Table.{encode, decode}
+use Rattle.rules.specs.Table.{decode}
 use Rattle.rules.specs.Requests.{requestLength}
 use Rattle.rules.specs.Sound.{SoundTable}
 use Rattle.rules.specs.Trace.{cleanArea, cleanly}
-use Rattle.layout.proofs.Boards.{printer-long, said-printer}
+use Rattle.layout.proofs.Boards.{printer-board}
 use Rattle.waiting.specs.Does.{Serves}
-use Rattle.waiting.proofs.Doing.{serves}
+use Rattle.waiting.proofs.Doing.{sound-serves}
 use Rattle.leaps.specs.Charges.{tickEvents}
 use Rattle.accounts.specs.Accounts.{accountsFrom}
 use Rattle.accounts.proofs.Accepted.{on-sound}
@@ -24,10 +24,8 @@ use Rattle.accounts.proofs.serve_ticks.Statement.{statement}
 use Rattle.accounts.proofs.serve_ticks.Tie as tie
 
 -- a sound table can be served
-can-be-served : {t : List ℕ} → SoundTable printer t → Serves t
-can-be-served {t} σ =
-    let says = said-printer t (σ .long) in
-    serves (record { long = printer-long (σ .long); meaning = σ .meaning ∙ ap encode (sym says) }) (rw says (σ .state))
+can-be-served : (t : List ℕ) → SoundTable printer t → Serves t
+can-be-served t σ = sound-serves t (subst (λ b. SoundTable b t) (sym (printer-board (length t) (σ .long))) σ)
 
 copy-of-requires : tie.Need-copy-of-requires
 copy-of-requires c κs = search needs
@@ -48,7 +46,7 @@ enter-ticks-requires c κs =
     let copied = c .before .before .before .before .before .before .before .copy-of .ensures in
     let σ = on-sound printer t r cleanArea accepts .0 in
     let most = asleep-most printer t (cleanly r) (start .args .n) (start .pre .1 .1 .1) accepts in (
-      (ap length copied ∙ start .pre .0, subst Serves (sym copied) (can-be-served σ)),
+      (ap length copied ∙ start .pre .0, subst Serves (sym copied) (can-be-served t σ)),
       (start .pre .1 .0 .0, λ i. omega (arith, most, start .pre .1 .0 .1 i)),
     )
 

@@ -17,7 +17,7 @@ use Rattle.rules.specs.declared.Request.{Request}
 use Rattle.rules.specs.declared.Answer.{Answer}
 use Rattle.rules.specs.declared.Decoded.the-variants.{Asked}
 use Rattle.waiting.specs.Does.{Serves, Does}
-use Rattle.waiting.proofs.Doing.{serves}
+use Rattle.waiting.proofs.Doing.{sound-serves}
 use Rattle.laws.proofs.Split.{and-true}
 use Rattle.laws.proofs.Tested.{tested-table}
 use Rattle.layout.specs.Held.{board, said}
@@ -25,10 +25,9 @@ use Rattle.layout.proofs.Held.{whole-holds}
 use Rattle.kernel.proofs.speltmallet_door.Statement.{statement}
 use Rattle.kernel.proofs.speltmallet_door.Tie as tie
 
--- a sound table can be served
+-- a table that passes the test can be served
 can-be-served : (t : List ℕ) → soundTable (board t) t ≡ true → Serves t
-unfolding said
-can-be-served t e = let h = tested-table (board t) t .0 e in serves (record { long = record { fits = h .long }; meaning = h .meaning }) (h .state)
+can-be-served t e = sound-serves t (tested-table (board t) t .0 e)
 
 -- what a step makes of it and answers is what the door says
 served : (t : List ℕ) (q : Request) {t′ : List ℕ} {a : Answer} → soundTable (board t) t ≡ true → Does t t′ a (λ s. step s q) → answered t′ a ≡ serveDecoded (board t) t (Asked q)
