@@ -179,6 +179,8 @@ gone() {
 . "$top/hosts/launcher/tests/streams.sh"
 # shellcheck source=hosts/launcher/tests/report.sh
 . "$top/hosts/launcher/tests/report.sh"
+# shellcheck source=hosts/launcher/tests/sheet.sh
+. "$top/hosts/launcher/tests/sheet.sh"
 # shellcheck source=hosts/launcher/tests/listing.sh
 . "$top/hosts/launcher/tests/listing.sh"
 # shellcheck source=hosts/launcher/tests/words.sh
@@ -212,6 +214,7 @@ tested() {
 tested build.sh
 for program in "${programs[@]}"; do tested streams.sh "$program"; done
 tested report.sh
+tested sheet.sh
 tested listing.sh
 tested words.sh
 printf 'hosts/launcher: %d tests passed, %d skipped, %d failed\n' "$passed" "$skipped" "$failed"

@@ -25,7 +25,7 @@ use Rattle.fairness.specs.Run.{Event, endOf, deedOf, deed, isTick, isZer
 use Rattle.fairness.specs.Fair.{ByRules, refused, served, RunFrom, moves, steady, Fairness}
 use Rattle.fairness.proofs.Keeps.{Same}
 use Rattle.fairness.proofs.Operations.{Effect, ticks, keeps, does}
-use Rattle.fairness.proofs.Rank.{turns, Fare, no-fare, fares, whole-rounds, same-turns}
+use Rattle.fairness.proofs.Rank.{Cell, turns, Fare, no-fare, fares, Window, whole-rounds, same-turns}
 use Rattle.fairness.proofs.View.{cell, view, view-in, member-place, good}
 use Rattle.fairness.proofs.Ticks.{still, tick-fare}
 
@@ -115,8 +115,19 @@ ran p n i s (e ∷ es) σ below m h k =
       fare = rw (← h .0) (fares n i _ _ _ _ _ _ _ (event-fare p n e σ' below' (h .1) (a .0) i m') (r .fare));
     }
 
-pub fairness : Fairness
-fairness p rounds s before part behind σ h k w i m =
+-- an unbroken part of a run, as a window of the rank's line
+pub record Part (p i : ℕ) (s : State) (part : List Event) : Type 0 where
+  pub n : ℕ
+  pub v : ℕ → Cell
+  pub v' : ℕ → Cell
+  pub window : Window n i v v' (count (chargedRank p) part) (count (chargedTo i) part)
+  pub sum : turns n v ≡ sumTurns p (s .threads)
+  pub turn : v i .turn ≡ at (s .threads) i .turn
+
+pub part-of : (p : ℕ) (s : State) (before part behind : List Event)
+    → Sound s → RunFrom s (before ++ (part ++ behind)) → all (steady p) (before ++ (part ++ behind)) ≡ true
+    → (i : ℕ) → readyAt p s i ≡ true → Part p i s part
+part-of p s before part behind σ h k i m =
     let ts = s .threads in
     let n = length ts in
     let u = endOf s before in
@@ -131,7 +142,26 @@ fairness p rounds s before part behind σ h k w i m =
     let m₁ : readyAt p u i ≡ true = a .same i ∙ m in
     let r : Ran p n i u part = ran p n i u part (a .sound) c m₁ (h₂ .0) (k₂ .0) in
     let d : (j : ℕ) → readyAt p x j ≡ true → j < n = λ j l. c j (sym (r .same j) ∙ l) in
-    let full : count (chargedRank p) part ≡ rounds * turns n (view p (u .threads)) = w ∙ ap (λ x. rounds * x) (sum-turns p ts ∙ sym (same-turns n (view p ts) (view p (u .threads)) (a .fare .turn))) in
-    whole-rounds rounds n _ _ i _ (view p (u .threads)) (view p (x .threads)) (good p n u (a .sound) c) (good p n x (r .sound) d)
-    (member-place p u (a .sound) i m₁) (member-place p x (r .sound) i (r .same i ∙ m₁)) (rw full at (r .fare)) .0
-    ∙ ap (λ x. rounds * x) (a .fare .turn i ∙ ap (λ z. z .turn) (view-in p ts i m))
+    record {
+      n = n;
+      v = view p (u .threads);
+      v' = view p (x .threads);
+      window = record {
+        N = _;
+        N' = _;
+        good = good p n u (a .sound) c;
+        good' = good p n x (r .sound) d;
+        place = member-place p u (a .sound) i m₁;
+        place' = member-place p x (r .sound) i (r .same i ∙ m₁);
+        fare = r .fare;
+      };
+      sum = same-turns n (view p ts) (view p (u .threads)) (a .fare .turn) ∙ sym (sum-turns p ts);
+      turn = a .fare .turn i ∙ ap (λ z. z .turn) (view-in p ts i m);
+    }
+
+pub fairness : Fairness
+fairness p rounds s before part behind σ h k w i m =
+    let x = part-of p s before part behind σ h k i m in
+    let y = x .window in
+    let full : count (chargedRank p) part ≡ rounds * turns (x .n) (x .v) = w ∙ ap (λ z. rounds * z) (sym (x .sum)) in
+    whole-rounds rounds (x .n) _ _ i _ (x .v) (x .v') (y .good) (y .good') (y .place) (y .place') (rw full at (y .fare)) .0 ∙ ap (λ z. rounds * z) (x .turn)

@@ -1,4 +1,4 @@
--- Why each thread gets its own turn.
+-- Why each thread gets its own turn, and why it is never far from its share nor late for it.
 pub mod Spent
 pub mod Rank
 pub mod Keeps
@@ -6,5 +6,6 @@ pub mod Operations
 pub mod View
 pub mod Ticks
 pub mod Fair
+pub mod Lateness
 pub mod Calls
 pub mod Doors

@@ -9,7 +9,8 @@ use native.Mathlib.Decide.{ℕ-discrete, decLe}
 use lib.Dec.{leb, eqb}
 use borrow.Author.Tests.{le-leb, lt-leb, eq-eqb, ne-eqb}
 use Rattle.laws.proofs.Sums.{Σ<, Σ-ext, Σ-mono, Σ-at, Σ-one, Σ-two}
-use Rattle.fairness.proofs.Spent.{Spent, nothing, joined, theirs, mine, last, fair}
+use Rattle.fairness.proofs.Spent.{Spent, nothing, joined, theirs, mine, last, fair, near, in-time, even}
+use Rattle.fairness.specs.Lateness.{Near, InTime, Even}
 use Rattle.rules.specs.Basic.{if_then_else_, bit}
 
 pub record Cell : Type 0 where
@@ -121,6 +122,9 @@ module _ {n N : ℕ} {v : ℕ → Cell} (g : Good n N v) where
   unfolding turns
   turn-le i h = Σ-one n (λ j. v j .turn) i (g .within i h)
 
+  pub turn-pos : (i : ℕ) → 1 ≤ v i .place → 1 ≤ v i .turn
+  turn-pos i h = omega (arith, counter-pos i h, counter-le i)
+
   -- the first one's due is what it has left
   pub due-first : (r : ℕ) → v r .place ≡ 1 → due n v 1 ≡ v r .counter
   unfolding due
@@ -222,6 +226,30 @@ fares n i v v' v'' m c m' c' a b = record {
   share = joined (a .share) (rw (a .turn i, same-turns n v v' (a .turn)) at (b .share));
   turn = λ j. b .turn j ∙ a .turn j;
 }
+
+-- a window: the line before it and after it, of a thread i that is in both, and what is charged
+pub record Window (n i : ℕ) (v v' : ℕ → Cell) (m c : ℕ) : Type 0 where
+  pub N : ℕ
+  pub N' : ℕ
+  pub good : Good n N v
+  pub good' : Good n N' v'
+  pub place : 1 ≤ v i .place
+  pub place' : 1 ≤ v' i .place
+  pub fare : Fare n i v v' m c
+
+module _ {n i : ℕ} {v v' : ℕ → Cell} {m c : ℕ} (x : Window n i v v' m c) where
+  after-le : due n v' (v' i .place) ≤ turns n v
+  after-le = omega (arith, due-le (x .good') (v' i .place), same-turns n v v' (x .fare .turn))
+
+  -- of a window of any length
+  pub window-near : Near (turns n v) (v i .turn) m c
+  window-near = near _ _ _ _ _ _ (turn-le (x .good) i (x .place)) (x .fare .share) (due-le (x .good) (v i .place)) after-le
+
+  pub window-in-time : InTime (turns n v) (v i .turn) m c
+  window-in-time = in-time _ _ _ _ _ _ (turn-pos (x .good) i (x .place)) (turn-le (x .good) i (x .place)) (x .fare .share) (due-le (x .good) (v i .place))
+
+  pub window-even : Even (turns n v) (v i .turn) m c
+  window-even = even _ _ _ _ (turn-pos (x .good) i (x .place)) (turn-le (x .good) i (x .place)) window-near
 
 -- a window of k times as many ticks as the turns sum to: k turns are charged, and the due is as it was
 pub whole-rounds : (k n N N' i c : ℕ) (v v' : ℕ → Cell) → Good n N v → Good n N' v' → 1 ≤ v i .place → 1 ≤ v' i .place → Fare n i v v' (k * turns n v) c

@@ -157,8 +157,19 @@ run-same p s (e ∷ es) h k j =
     let a = and-true _ _ k in
     run-same p (e .after) es (h .2) (a .1) j ∙ same-set p e (and-true _ _ (a .0) .0) j ∙ ap (λ u. readyAt p u j) (h .0)
 
-pub no-lag : NoLag
-no-lag p k s before part σ h steadily earlier whole i m =
+-- what demand 3 covers from state u, which `before` leaves, to x, which `part` leaves then; of the rank's ready threads at x
+pub record Covered (p : ℕ) (u x : State) (before part : List Event) : Type 0 where
+  pub sound : Sound u
+  pub run : RunFrom u part
+  pub same : (j : ℕ) → readyAt p x j ≡ readyAt p u j
+  pub turn : (j : ℕ) → readyAt p x j ≡ true → at (x .threads) j .turn ≡ at (u .threads) j .turn
+  pub sum : (j : ℕ) → readyAt p x j ≡ true → sumTurns p (x .threads) ≡ sumTurns p (u .threads)
+  pub charged : (j : ℕ) → readyAt p x j ≡ true → account (before ++ part) j ≡ count (chargedTo j) part
+
+pub covered : (p : ℕ) (s : State) (before part : List Event) → Sound s → RunFrom s (before ++ part) → all (steady p) part ≡ true
+    → ((i : ℕ) → readyAt p (endOf s (before ++ part)) i ≡ true → account before i ≡ 0)
+    → Covered p (endOf s before) (endOf s (before ++ part)) before part
+covered p s before part σ h steadily earlier =
     let u = endOf s before in
     let x = endOf u part in
     let n = length (u .threads) in
@@ -168,19 +179,24 @@ no-lag p k s before part σ h steadily earlier whole i m =
     let below : (j : ℕ) → readyAt p u j ≡ true → j < n = λ j l. in-range (u .threads) j (ready p) l in
     let same : (j : ℕ) → readyAt p x j ≡ readyAt p u j = run-same p u part (h₁ .1) steadily in
     let there : (j : ℕ) → readyAt p x j ≡ true → readyAt p u j ≡ true = λ j l. sym (same j) ∙ l in
-    let r : Ran p n i u part = ran p n i u part τ below (there i (rw ends at m)) (h₁ .1) steadily in
-    let turn : (j : ℕ) → readyAt p x j ≡ true → at (x .threads) j .turn ≡ at (u .threads) j .turn = λ j l.
-    sym (ap (λ c. c .turn) (view-in p (x .threads) j l)) ∙ r .fare .turn j ∙ ap (λ c. c .turn) (view-in p (u .threads) j (there j l)) in
-    let sums : sumTurns p (x .threads) ≡ sumTurns p (u .threads) =
-    sum-turns p (x .threads) ∙ ap (λ l. turns l (view p (x .threads))) (run-length u part (h₁ .1)) ∙ same-turns n _ _ (r .fare .turn) ∙ sym (sum-turns p (u .threads)) in
-    let whole' : count (chargedRank p) part ≡ k * sumTurns p (u .threads) = rw (ends, sums) at whole in
-    let fair : (j : ℕ) → readyAt p x j ≡ true → account (before ++ part) j ≡ k * at (x .threads) j .turn = λ j l.
-    omega (
-      arith,
-      account-append j 0 before part,
-      account-steady p j (account before j) u part (there j l) (h₁ .1) steadily,
-      earlier j (rw ends l),
-      fairness p k u [] part [] τ (rw (append-nil part) (h₁ .1)) (rw (append-nil part) steadily) whole' j (there j l)
-          ∙ ap (λ c. k * c) (sym (turn j l)),
-    ) in
-    rw ends (lag-none p k (account (before ++ part)) x fair i (rw ends at m))
+    let r : (j : ℕ) → readyAt p x j ≡ true → Ran p n j u part = λ j l. ran p n j u part τ below (there j l) (h₁ .1) steadily in
+    rw ends (record {
+      sound = τ;
+      run = h₁ .1;
+      same = same;
+      turn = λ j l. sym (ap (λ c. c .turn) (view-in p (x .threads) j l)) ∙ r j l .fare .turn j ∙ ap (λ c. c .turn) (view-in p (u .threads) j (there j l));
+      sum = λ j l.
+          sum-turns p (x .threads) ∙ ap (λ m. turns m (view p (x .threads))) (run-length u part (h₁ .1)) ∙ same-turns n _ _ (r j l .fare .turn) ∙ sym (sum-turns p (u .threads));
+      charged = λ j l.
+          omega (arith, account-append j 0 before part, account-steady p j (account before j) u part (there j l) (h₁ .1) steadily, earlier j (rw ends l));
+    })
+
+pub no-lag : NoLag
+no-lag p k s before part σ h steadily earlier whole i m =
+    let c = covered p s before part σ h steadily earlier in
+    let u = endOf s before in
+    let whole' : count (chargedRank p) part ≡ k * sumTurns p (u .threads) = rw (c .sum i m) at whole in
+    lag-none p k (account (before ++ part)) (endOf s (before ++ part)) (λ j l.
+    c .charged j l
+    ∙ fairness p k u [] part [] (c .sound) (rw (append-nil part) (c .run)) (rw (append-nil part) steadily) whole' j (sym (c .same j) ∙ l)
+    ∙ ap (λ t. k * t) (sym (c .turn j l))) i m

@@ -20,6 +20,9 @@ use Rattle.fairness.specs.Doors.{countedAs, runOf}
 use Rattle.promises.specs.Demand3.{Fair, Shares}
 use Rattle.promises.specs.Slept.{Soonest}
 use Rattle.promises.specs.Lanes.{NoLagIn}
+use Rattle.fairness.specs.Lateness.{Near, InTime, Even}
+use Rattle.lateness.specs.Moments.{Kept}
+use Rattle.lateness.specs.Lags.{LagBoundIn}
 use Rattle.tight.specs.Kernel.{Lent, Call, Runs, events, Kernel}
 use Rattle.promises.proofs.First.{first}
 use Rattle.promises.proofs.Second.{second}
@@ -28,6 +31,8 @@ use Rattle.promises.proofs.Third.{whole-rounds, demand3}
 use Rattle.promises.proofs.Slept.{slept}
 use Rattle.promises.proofs.FormerSet.{former-set}
 use Rattle.promises.proofs.Lanes.{no-lags}
+use Rattle.lateness.proofs.Moments.{never-far, never-late, equal-lanes}
+use Rattle.lateness.proofs.Lags.{lag-bounds}
 
 -- three facts, one after the other, are one
 three : {M : Type 1} (𝓤 : URA M) (a b c φ : Type 0) → (a → b → c → φ) → ent 𝓤 (sep 𝓤 (fact 𝓤 a) (sep 𝓤 (fact 𝓤 b) (fact 𝓤 c))) (fact 𝓤 φ)
@@ -71,4 +76,8 @@ kernel = record {
   third = λ t cs h. subst (λ es. Fair printer t es) (run-of t cs h) (demand3 printer t (map handed cs));
   shares = λ t cs h. subst (λ es. Shares printer t es) (run-of t cs h) (whole-rounds printer t (map handed cs));
   lags = λ t cs σ h. subst (λ es. NoLagIn printer t es) (run-of t cs h) (no-lags .from printer t (map handed cs) σ);
+  far = λ t cs h. subst (λ es. Kept Near printer t es) (run-of t cs h) (never-far printer t (map handed cs));
+  late = λ t cs h. subst (λ es. Kept InTime printer t es) (run-of t cs h) (never-late printer t (map handed cs));
+  even = λ t cs h. subst (λ es. Kept Even printer t es) (run-of t cs h) (equal-lanes printer t (map handed cs));
+  lagBound = λ t cs σ h. subst (λ es. LagBoundIn printer t es) (run-of t cs h) (lag-bounds .from printer t (map handed cs) σ);
 }

@@ -35,6 +35,9 @@ use Rattle.promises.specs.Demand3.{Fair, Shares}
 use Rattle.promises.specs.Slept.{tickTimes, found, Soonest}
 use Rattle.promises.specs.FormerSet.{formerSet}
 use Rattle.promises.specs.Lanes.{NoLagIn}
+use Rattle.fairness.specs.Lateness.{Near, InTime, Even}
+use Rattle.lateness.specs.Moments.{Kept}
+use Rattle.lateness.specs.Lags.{LagBoundIn}
 
 -- ONE CALL
 
@@ -118,3 +121,8 @@ pub record Kernel : Type 2 where
   pub shares : (t : List ℕ) (cs : List Call) → Runs t cs → Shares printer t (events t cs)
   -- order 5: and no lag after whole rounds
   pub lags : (t : List ℕ) (cs : List Call) → SoundTable printer t → Runs t cs → NoLagIn printer t (events t cs)
+  -- at every moment: never far from the share, never late for it, equal lanes evenly, and a bounded lag
+  pub far : (t : List ℕ) (cs : List Call) → Runs t cs → Kept Near printer t (events t cs)
+  pub late : (t : List ℕ) (cs : List Call) → Runs t cs → Kept InTime printer t (events t cs)
+  pub even : (t : List ℕ) (cs : List Call) → Runs t cs → Kept Even printer t (events t cs)
+  pub lagBound : (t : List ℕ) (cs : List Call) → SoundTable printer t → Runs t cs → LagBoundIn printer t (events t cs)

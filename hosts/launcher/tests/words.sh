@@ -2,7 +2,7 @@
 # The words that no file goes through, and the help of all. hosts/launcher/check.sh has what these tests use.
 # shellcheck disable=SC2154
 
-every=(trace report write list test bench install) # and help
+every=(trace report sheet write list test bench install) # and help
 
 # also by the messages that name what is accepted
 every_word_is_explained() {

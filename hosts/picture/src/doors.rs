@@ -47,8 +47,13 @@ impl Board {
 
     /// Puts a request to the door: the code, and who was sent to the back.
     pub fn ask(&mut self, request: &Record) -> (i32, Option<SentBack>) {
+        self.ask_in(request, &mut [0; AREA])
+    }
+
+    /// The same with this area for the answer.
+    pub fn ask_in(&mut self, request: &Record, area: &mut [u8; AREA]) -> (i32, Option<SentBack>) {
         let before = self.running();
-        let code = door(&mut self.table, request, &mut [0; AREA]);
+        let code = door(&mut self.table, request, area);
         let is_sent = self.rule == Rule::Incident && self.broken_off(before);
         (code, is_sent.then(|| self.send_back(before)))
     }

@@ -1,0 +1,92 @@
+//! What a page is of and what it was made with: the recording's name and digest, the version, the kit and the revision.
+
+use std::fs;
+use std::io::Write;
+use std::path::Path;
+use std::process::{Command, Stdio};
+
+use programs::top;
+
+/// A page's origin.
+#[derive(Clone, Debug)]
+pub struct About {
+    /// The recording's name, or nothing where it came by standard input.
+    pub file: Option<String>,
+    /// Its SHA-256.
+    pub digest: String,
+    pub version: String,
+    pub kit: String,
+    pub revision: String,
+}
+
+impl About {
+    /// Of this file with these bytes; the revision is the checkout's where none is given.
+    pub fn of(
+        file: Option<&Path>,
+        bytes: &[u8],
+        revision: Option<String>,
+    ) -> Result<About, String> {
+        let name = file.and_then(Path::file_name);
+        Ok(About {
+            file: name.map(|name| name.to_string_lossy().into_owned()),
+            digest: digest(bytes)?,
+            version: held("VERSION")?,
+            kit: held("KIT")?,
+            revision: revision.unwrap_or_else(revision_here),
+        })
+    }
+}
+
+/// The one line of a file of the checkout.
+fn held(name: &str) -> Result<String, String> {
+    let text = fs::read_to_string(top().join(name))
+        .map_err(|error| format!("the checkout's file {name} can't be read: {error}"))?;
+    Ok(text.trim().to_string())
+}
+
+fn digest(bytes: &[u8]) -> Result<String, String> {
+    let fault = |error| format!("sha256sum can't be run: {error}");
+    let mut child = Command::new("sha256sum")
+        .stdin(Stdio::piped())
+        .stdout(Stdio::piped())
+        .spawn()
+        .map_err(fault)?;
+    child
+        .stdin
+        .take()
+        .expect("its standard input")
+        .write_all(bytes)
+        .map_err(fault)?;
+    let output = child.wait_with_output().map_err(fault)?;
+    let text = String::from_utf8_lossy(&output.stdout);
+    text.split(' ')
+        .next()
+        .filter(|word| word.len() == 64)
+        .map(String::from)
+        .ok_or_else(|| String::from("sha256sum prints no digest"))
+}
+
+/// The commit of the checkout, and whether what it holds was changed since.
+fn revision_here() -> String {
+    let git = |words: &[&str]| {
+        let output = Command::new("git")
+            .arg("-C")
+            .arg(top())
+            .args(words)
+            .stderr(Stdio::null())
+            .output()
+            .ok()?;
+        output
+            .status
+            .success()
+            .then(|| String::from_utf8_lossy(&output.stdout).trim().to_string())
+    };
+    match (
+        git(&["rev-parse", "HEAD"]),
+        git(&["status", "--porcelain", "--", "crates", "crates.txt"]),
+    ) {
+        (Some(commit), Some(changed)) if changed.is_empty() => commit,
+        (Some(commit), _) => format!("{commit}, and changes in crates/ that are not committed"),
+        _ => String::from("unknown: the folder is no clone"),
+    }
+}

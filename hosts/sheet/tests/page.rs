@@ -1,0 +1,220 @@
+//! The page: it is whole by itself, texts are escaped, it says so where there is nothing to show, and it stays small.
+
+mod told;
+
+use std::fs;
+
+use model::{operation as op, random_trace, record, Rng, MOST_RECORDS};
+use programs::top;
+use sheet::about::About;
+use sheet::names::Names;
+use sheet::text::signed_ticks;
+use sheet::theorems::THEOREMS;
+use told::{about, create, page_of, plain_page, ticks, two_lanes};
+
+/// A page of an event of up to 1,000,000 requests has fewer bytes than these.
+const MOST_BYTES: usize = 2_000_000;
+
+#[test]
+fn nothing_is_loaded_from_elsewhere() {
+    let page = plain_page(&two_lanes(100));
+    for outside in [
+        "http:", "https:", "//", "<script", "<link", "<img", "<iframe", "src=", "href=", "@import",
+        "url(",
+    ] {
+        assert!(!page.contains(outside), "the page has {outside}");
+    }
+}
+
+#[test]
+fn texts_are_escaped() {
+    let names = Names::read(r#"1=<i>left & "odd"</i>,2='right'"#).expect("names");
+    let about = About {
+        file: Some(String::from("<b>.trace")),
+        revision: String::from("a<b"),
+        ..about()
+    };
+    let page = page_of(&two_lanes(20), &names, &about);
+    for raw in ["<i>", "<b>.trace", "a<b", "'right'"] {
+        assert!(!page.contains(raw), "the page has {raw}");
+    }
+    for escaped in [
+        "&lt;i&gt;left &amp; &quot;odd&quot;&lt;/i&gt;",
+        "&#39;right&#39;",
+        "&lt;b&gt;.trace",
+        "a&lt;b",
+    ] {
+        assert!(page.contains(escaped), "the page has no {escaped}");
+    }
+}
+
+#[test]
+fn the_answer_has_two_sentences_for_the_lanes() {
+    let names = Names::read("1=left lane,2=right lane").expect("names");
+    let page = page_of(&two_lanes(40), &names, &about());
+    let answer = "Of the ticks charged to rank 5 while both are ready, <b>left lane</b> and <b>right lane</b> are each promised half, 8 of 16: \
+                  of the 40 ticks in this recording they got 24 and 16. At no moment was either of them more than 4 ticks from its share \
+                  (proved: at most 4), and neither waited for more than 8 ticks of their rank (proved: at most 8).";
+    assert!(page.contains(answer), "{page}");
+}
+
+#[test]
+fn a_page_of_nothing_says_so() {
+    let refused = record(op::GONE, 0, 0, 0, 0).repeat(5);
+    let untimed = [create(1, 5, 8), create(2, 5, 8)].concat();
+    let alone = [create(1, 5, 8).to_vec(), ticks(9)].concat();
+    for (bytes, said) in [
+        (refused, "All 5 requests of this recording were refused."),
+        (
+            untimed,
+            "In the 2 requests of this recording no tick was charged to anybody.",
+        ),
+        (
+            alone,
+            "No two threads were ready at the same rank while a tick was charged to it.",
+        ),
+        (
+            [two_lanes(1), vec![1, 2, 3]].concat(),
+            "Its last 3 bytes are no whole request and are left out.",
+        ),
+    ] {
+        let page = plain_page(&bytes);
+        assert!(page.contains(said), "no '{said}' in {page}");
+    }
+}
+
+#[test]
+fn a_lock_and_a_break_in_are_shown() {
+    let lock = record(op::LOCK, 0, 0, 0, 0);
+    let unlock = record(op::UNLOCK, 0, 0, 0, 0);
+    let cut = [
+        &create(3, 9, 2)[..],
+        &ticks(2),
+        &record(op::DELETE, 3, 0, 0, 0),
+    ]
+    .concat();
+    let page = plain_page(
+        &[
+            two_lanes(3),
+            cut,
+            lock.to_vec(),
+            ticks(4),
+            unlock.to_vec(),
+            ticks(9),
+        ]
+        .concat(),
+    );
+    assert!(page.contains("scheduler locked"), "{page}");
+    assert!(page.contains("4 ticks, charged to nobody"), "{page}");
+    assert!(page.contains("broken into 1 time"), "{page}");
+    assert!(page.contains("not in use at the end"), "{page}");
+}
+
+#[test]
+fn what_ended_a_stretch_is_said() {
+    let asked = [
+        record(op::YIELD, 0, 0, 0, 0),
+        record(op::SET_TURN, 2, 0, 5, 0),
+        record(op::DELAY, 0, 0, 2, 0),
+        record(op::SUSPEND, 2, 0, 0, 0),
+        record(op::RESUME, 2, 0, 0, 0),
+        record(op::SET_PRIORITY, 1, 5, 0, 0),
+        record(op::SET_PRIORITY, 1, 4, 0, 0),
+        record(op::DELETE, 1, 0, 0, 0),
+    ];
+    let steps = asked
+        .iter()
+        .flat_map(|request| [&request[..], &ticks(3)].concat());
+    let page = plain_page(&[two_lanes(3), steps.collect()].concat());
+    for said in [
+        "request 5: thread 1 yielded",
+        "request 9: thread 2 was set to turns of 5",
+        "waited: a delay",
+        "thread 2 was suspended",
+        "thread 1 was set to priority 5",
+        "thread 1 was set to priority 4",
+    ] {
+        assert!(page.contains(said), "no '{said}' in {page}");
+    }
+}
+
+/// The most that a page can have to show: every thread shares a rank and each is drawn.
+fn crowded(requests: usize) -> Vec<u8> {
+    let mut rng = Rng::new(19);
+    let mut bytes = record(op::LOCK, 0, 0, 0, 0).to_vec();
+    for thread in 1..16 {
+        bytes.extend(create(thread, 5, rng.between(1, 9)));
+    }
+    bytes.extend(record(op::UNLOCK, 0, 0, 0, 0));
+    while bytes.len() < 12 * requests {
+        bytes.extend(ticks(1));
+        match rng.below(50) {
+            0 => bytes.extend(record(op::YIELD, 0, 0, 0, 0)),
+            1 => bytes.extend(record(op::DELAY, 0, 0, rng.between(1, 50), 0)),
+            2 => bytes.extend(record(
+                op::SET_TURN,
+                rng.between(1, 15) as u8,
+                0,
+                rng.between(1, 9),
+                0,
+            )),
+            _ => {}
+        }
+    }
+    bytes
+}
+
+#[test]
+fn a_crowded_page_is_small() {
+    let page = plain_page(&crowded(60_000));
+    assert!(page.len() < MOST_BYTES, "{} bytes", page.len());
+}
+
+#[test]
+fn the_first_million_requests_count() {
+    let page = plain_page(&[two_lanes(MOST_RECORDS), vec![7]].concat());
+    assert!(page.len() < MOST_BYTES, "{} bytes", page.len());
+    assert!(page.contains(
+        "The recording has 1,000,000 requests, of which none was refused, and 999,998 ticks."
+    ));
+    assert!(page.contains("only the first 1,000,000 count"));
+}
+
+#[test]
+fn random_recordings_make_pages() {
+    let mut rng = Rng::new(190);
+    for _ in 0..40 {
+        let trace = random_trace(&mut rng, 300);
+        assert!(plain_page(&trace).len() < MOST_BYTES);
+    }
+}
+
+#[test]
+fn every_theorem_stands_in_its_file() {
+    for theorem in &THEOREMS {
+        let text = fs::read_to_string(top().join(theorem.file)).unwrap_or_default();
+        let stated =
+            ["abbrev pub ", "pub record "].map(|before| format!("{before}{} :", theorem.name));
+        assert!(
+            stated.iter().any(|stated| text.contains(stated)),
+            "{} is not stated in {}",
+            theorem.name,
+            theorem.file
+        );
+    }
+}
+
+#[test]
+fn ticks_are_said_to_two_places() {
+    for (times, sum, said) in [
+        (0, 16, "0"),
+        (64, 16, "+4"),
+        (-64, 16, "−4"),
+        (440, 16, "+27.5"),
+        (-6, 5, "−1.2"),
+        (15, 8, "≈\u{2009}+1.88"),
+        (-1_000_000, 3, "≈\u{2009}−333,333.33"),
+    ] {
+        assert_eq!(signed_ticks(times, sum), said, "{times} by {sum}");
+    }
+}
