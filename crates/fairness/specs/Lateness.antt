@@ -37,12 +37,3 @@ AtEveryMoment B =
     → Sound s → RunFrom s (before ++ (part ++ behind)) → all (steady p) (before ++ (part ++ behind)) ≡ true
     → (i : ℕ) → readyAt p s i ≡ true
     → B (sumTurns p (s .threads)) (at (s .threads) i .turn) (count (chargedRank p) part) (count (chargedTo i) part)
-
-abbrev pub NeverFar : Type 0
-NeverFar = AtEveryMoment Near
-
-abbrev pub NeverLate : Type 0
-NeverLate = AtEveryMoment InTime
-
-abbrev pub EqualLanes : Type 0
-EqualLanes = AtEveryMoment Even

@@ -44,7 +44,7 @@ impl Event {
             incident,
         };
         event.is_reported()?;
-        event.is_promised()?;
+        promised(&event.ruled)?;
         Ok(event)
     }
 
@@ -96,16 +96,16 @@ impl Event {
         let set = self.end.sets[self.end.threads[thread].rank];
         numbers(set).map(|i| self.end.threads[i].turn).sum()
     }
+}
 
-    /// What is proved of every run holds of this one.
-    fn is_promised(&self) -> Result<(), String> {
-        match &self.ruled.stretches.broken {
-            None => Ok(()),
-            Some(stretch) => Err(format!(
-                "what is proved of every run does not hold of rank {} from request {} to {}: there is no page of it, and the proof, the kernel or this program is wrong",
-                stretch.rank, stretch.first, stretch.last
-            )),
-        }
+/// What is proved of every run holds of this one.
+pub fn promised(counts: &Counts) -> Result<(), String> {
+    match &counts.stretches.broken {
+        None => Ok(()),
+        Some(stretch) => Err(format!(
+            "what is proved of every run does not hold of rank {} from request {} to {}: there is no page of it, and the proof, the kernel or this program is wrong",
+            stretch.rank, stretch.first, stretch.last
+        )),
     }
 }
 

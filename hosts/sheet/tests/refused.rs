@@ -2,10 +2,11 @@
 
 mod told;
 
-use sheet::event::Event;
+use model::{operation as op, record};
+use sheet::event::{promised, Event};
 use sheet::names::Names;
 use sheet::proved::Proved;
-use told::{printed, recording, two_lanes};
+use told::{create, event, printed, recording, ticks, two_lanes};
 
 /// What is said of 40 ticks of two lanes, with a part of what is printed replaced.
 fn refused(program: &str, old: &str, new: &str) -> String {
@@ -114,6 +115,20 @@ fn a_figure_that_differs_is_refused() {
         assert!(fault.contains(said), "{program}, {new:?}: {fault}");
         assert_eq!(fault.lines().count(), 1, "one line: {fault}");
     }
+}
+
+/// The rule of the incident does not keep what is proved, so that its counts are those of a wrong kernel.
+#[test]
+fn a_run_that_does_not_keep_what_is_proved_is_refused() {
+    let cut = [&create(3, 9, 1)[..], &record(op::DELETE, 3, 0, 0, 0)].concat();
+    // four times a cut into the left lane's turn, and then a turn of the right lane
+    let cuts = [cut, ticks(8)].concat().repeat(4);
+    let event = event(&[two_lanes(0), cuts].concat());
+    assert_eq!(promised(&event.ruled), Ok(()));
+    let fault = promised(&event.incident).expect_err("the left lane gets nothing");
+    let said = "what is proved of every run does not hold of rank 5 from request 2 to 42";
+    assert!(fault.starts_with(said), "{fault}");
+    assert_eq!(event.incident.rows[1].total, 0);
 }
 
 #[test]
