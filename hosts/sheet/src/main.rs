@@ -118,18 +118,20 @@ fn put(out: &Path, page: &[u8]) -> Result<(), String> {
     if is_other {
         return fs::write(out, page).map_err(fault);
     }
-    let name = out
+    // a link stays, and the file that it leads to gets the page
+    let file = fs::canonicalize(out).unwrap_or_else(|_| out.to_path_buf());
+    let name = file
         .file_name()
         .ok_or(format!("'{}' is no file's name", out.display()))?;
-    let unfinished = out.with_file_name(format!(
+    let unfinished = file.with_file_name(format!(
         ".{}.{}",
         name.to_string_lossy(),
         std::process::id()
     ));
-    let written = File::create(&unfinished).and_then(|mut file| {
-        file.write_all(page)?;
-        file.sync_all()?;
-        fs::rename(&unfinished, out)
+    let written = File::create(&unfinished).and_then(|mut new| {
+        new.write_all(page)?;
+        new.sync_all()?;
+        fs::rename(&unfinished, &file)
     });
     written.map_err(|error| {
         let _ = fs::remove_file(&unfinished);

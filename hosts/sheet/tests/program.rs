@@ -153,6 +153,22 @@ fn nothing_is_lost() {
 }
 
 #[test]
+fn a_link_leads_to_the_page() {
+    let room = Room::new("link");
+    let (page, link) = (
+        room.file("page.html", b"an older page"),
+        room.0.join("link"),
+    );
+    std::os::unix::fs::symlink(&page, &link).expect("a link");
+    assert!(run(&[&example(), &link]).status.success());
+    assert_eq!(fs::read_link(&link).expect("it is a link still"), page);
+    assert!(fs::read(&page)
+        .expect("the page")
+        .starts_with(b"<!DOCTYPE html>"));
+    assert_eq!(room.names(), ["link", "page.html"], "nothing else is left");
+}
+
+#[test]
 fn words_that_are_not_accepted_are_refused() {
     let one = Path::new("one");
     is_refused(
