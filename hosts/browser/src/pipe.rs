@@ -12,7 +12,7 @@ use std::time::{Duration, Instant};
 use crate::json::{quoted, Value};
 
 /// The browser answers, and a page is loaded, in this time.
-pub const PATIENCE: Duration = Duration::from_secs(30);
+pub const PATIENCE: Duration = Duration::from_secs(120);
 
 /// What a browser tells without being asked.
 #[derive(Clone, Debug)]

@@ -19,22 +19,40 @@ pub struct About {
     pub revision: String,
 }
 
+/// What is said of a page's origin in the place of what this machine says.
+#[derive(Clone, Debug, Default)]
+pub struct Given {
+    pub revision: Option<String>,
+    pub kit: Option<String>,
+}
+
 impl About {
-    /// Of this file with these bytes; the revision is the checkout's where none is given.
-    pub fn of(
-        file: Option<&Path>,
-        bytes: &[u8],
-        revision: Option<String>,
-    ) -> Result<About, String> {
+    /// Of this file with these bytes.
+    pub fn of(file: Option<&Path>, bytes: &[u8], given: &Given) -> Result<About, String> {
         let name = file.and_then(Path::file_name);
         Ok(About {
             file: name.map(|name| name.to_string_lossy().into_owned()),
             digest: digest(bytes)?,
             version: held("VERSION")?,
-            kit: held("KIT")?,
-            revision: revision.unwrap_or_else(revision_here),
+            kit: given.kit.clone().map_or_else(kit_here, Ok)?,
+            revision: given.revision.clone().unwrap_or_else(revision_here),
         })
     }
+}
+
+/// The kit that the checkout names, or the one at hand where that is another.
+fn kit_here() -> Result<String, String> {
+    let named = held("KIT")?;
+    let output = Command::new("rt")
+        .arg("--version")
+        .stderr(Stdio::null())
+        .output();
+    let output = output.ok().filter(|output| output.status.success());
+    let here = output.map(|output| String::from_utf8_lossy(&output.stdout).trim().to_string());
+    Ok(match here {
+        Some(here) if here != named => format!("{here}, and not {named}, which the file KIT names"),
+        _ => named,
+    })
 }
 
 /// The one line of a file of the checkout.
@@ -66,7 +84,7 @@ fn digest(bytes: &[u8]) -> Result<String, String> {
         .ok_or_else(|| String::from("sha256sum prints no digest"))
 }
 
-/// The commit of the checkout, and whether what it holds was changed since.
+/// The commit of the checkout, and whether what is proved or what makes the page was changed since.
 fn revision_here() -> String {
     let git = |words: &[&str]| {
         let output = Command::new("git")
@@ -83,10 +101,17 @@ fn revision_here() -> String {
     };
     match (
         git(&["rev-parse", "HEAD"]),
-        git(&["status", "--porcelain", "--", "crates", "crates.txt"]),
+        git(&[
+            "status",
+            "--porcelain",
+            "--",
+            "crates",
+            "crates.txt",
+            "hosts",
+        ]),
     ) {
         (Some(commit), Some(changed)) if changed.is_empty() => commit,
-        (Some(commit), _) => format!("{commit}, and changes in crates/ that are not committed"),
+        (Some(commit), _) => format!("{commit}, and changes that are not committed"),
         _ => String::from("unknown: the folder is no clone"),
     }
 }

@@ -8,7 +8,7 @@ use model::THREADS;
 use crate::event::Event;
 use crate::names::Names;
 use crate::stretches::{Got, Lane, LaneGot, Set};
-use crate::text::{escape, grouped, listed, many, share, signed_ticks, ticks};
+use crate::text::{escape, grouped, listed, many, quotient, share, signed_quotient};
 
 /// So many sets of a thread have a row of their own.
 const MOST_SETS: usize = 4;
@@ -19,13 +19,16 @@ const MOST_NAMES: usize = 2;
 /// The answer of an event.
 pub fn answer(event: &Event, names: &Names) -> String {
     let mut page = String::from(r#"<section id="answer"><h2>The answer</h2>"#);
-    let mains = event.ruled.stretches.main_sets();
+    let stretches = &event.ruled.stretches;
+    let mains = stretches.main_sets();
     for (set, got) in &mains {
+        let others = stretches.sets_at(set.rank) - 1;
         let _ = write!(
             page,
-            r#"<p class="answer">{} {}</p>"#,
-            promised(set, got, names),
-            bounded(set, got)
+            r#"<p class="answer">{} {}</p>{}"#,
+            promised(set, got, others == 0, names),
+            bounded(set, got),
+            shared_otherwise(set.rank, others)
         );
     }
     if mains.is_empty() {
@@ -45,8 +48,19 @@ fn unshared(event: &Event) -> String {
     String::from("No two threads were ready at the same rank while a tick was charged to it. So there was nothing to share out.")
 }
 
-/// The first sentence: what was promised and what came of it.
-fn promised(set: &Set, got: &Got, names: &Names) -> String {
+/// What the two sentences leave to the table.
+fn shared_otherwise(rank: usize, others: usize) -> String {
+    if others == 0 {
+        return String::new();
+    }
+    let ways = many(others as u64, "other way");
+    format!(
+        r#"<p class="note">Rank {rank} was shared in {ways} too, by other threads or with other turns: the table has the figures.</p>"#
+    )
+}
+
+/// The first sentence: what was promised and what came of it, to the rank's only set or to the one with the most ticks.
+fn promised(set: &Set, got: &Got, is_only: bool, names: &Names) -> String {
     let lanes = set
         .lanes
         .iter()
@@ -78,7 +92,10 @@ fn promised(set: &Set, got: &Got, names: &Names) -> String {
     };
     let (rank, ticks) = (set.rank, many(got.ticks, "tick"));
     let counted = match got.stretches {
-        1 => format!("{ticks} in this recording"),
+        1 if is_only => format!("{ticks} in this recording"),
+        1 => {
+            format!("{ticks} in one stretch of this recording, in which the promise's terms held,")
+        }
         some => format!(
             "{ticks} in {} stretches of this recording, in each of which the promise's terms held,",
             grouped(some)
@@ -116,12 +133,12 @@ fn bounded(set: &Set, got: &Got) -> String {
         .max()
         .unwrap_or(0);
     let longest = got.lanes.iter().map(|lane| lane.longest).max().unwrap_or(0);
-    let far = ticks(furthest, sum);
+    let far = quotient(furthest, sum);
     let s = if far == "1" { "" } else { "s" };
     format!(
         "{within} no moment was {} of them more than {far} tick{s} from its share (proved: at most {}), and {neither} waited for more than {} of their rank (proved: at most {}).",
         if set.lanes.len() == 2 { "either" } else { "any" },
-        ticks(set.far_bound(lane), sum),
+        quotient(set.far_bound(lane), sum),
         many(longest, "tick"),
         grouped(set.late_bound(lane)),
     )
@@ -129,10 +146,10 @@ fn bounded(set: &Set, got: &Got) -> String {
 
 /// The threads that share a rank, and then the others, the highest rank first.
 fn in_order(event: &Event) -> Vec<usize> {
-    let sharing = event.ruled.stretches.sharing();
-    let mut others: Vec<usize> = (0..THREADS).filter(|i| !sharing.contains(i)).collect();
-    others.sort_by_key(|&i| Reverse(event.rank(i)));
-    [sharing, others].concat()
+    let lanes = event.lanes.clone();
+    let mut others: Vec<usize> = (0..THREADS).filter(|i| !lanes.contains(i)).collect();
+    others.sort_by_key(|&i| Reverse(event.ranks[i]));
+    [lanes, others].concat()
 }
 
 /// A row for each thread and each set in which it was charged or waited.
@@ -140,21 +157,22 @@ fn table(event: &Event, names: &Names) -> String {
     let mut rows = String::new();
     let mut others = 0;
     for thread in in_order(event) {
-        let sets = event.ruled.stretches.sets_of(thread);
-        others += sets.len().saturating_sub(MOST_SETS);
+        let stretches = &event.ruled.stretches;
+        let sets = stretches.main_sets_of(thread, MOST_SETS);
+        others += stretches.sets_of(thread).count() - sets.len();
         if event.line(thread).is_some() || !sets.is_empty() {
-            rows += &thread_rows(event, names, thread, &sets[..sets.len().min(MOST_SETS)]);
+            rows += &thread_rows(event, names, thread, &sets);
         }
     }
     let left_out = match others {
         0 => String::new(),
         _ => format!(
-            " Of a thread with more than {MOST_SETS} of them the {MOST_SETS} with the most ticks are shown; the bounds held in the {} others too.",
+            " A thread has {MOST_SETS} rows at the most: first those of a rank that it shared, and of these those with the most ticks. The bounds held in the {} others too.",
             grouped(others as u64)
         ),
     };
     format!(
-        r#"<div class="wide"><table class="figures"><thead><tr><th>Thread</th><th>Ticks charged</th><th>Lag, in ticks</th><th>Shares rank</th><th>Turn</th><th>Promised share</th><th>Furthest from its share</th><th>Longest wait</th><th>Proved bounds</th></tr></thead>{rows}</table></div>
+        r#"<div class="wide"><table class="figures"><thead><tr><th>Thread</th><th>Ticks charged</th><th>Lag, in ticks</th><th>Rank</th><th>Turn</th><th>Promised share</th><th>Furthest from its share</th><th>Longest wait</th><th>Proved bounds</th></tr></thead>{rows}</table></div>
 <p class="note">Ticks charged and lag are the proved report's, of the thread's whole life at the end. A lag is what the thread has more (+) or less (−) than its share of what its rank's ready threads have, whatever it missed by waiting, yielding or being created later; of a thread that is not ready at the end it is 0. The columns behind it are of the stretches below, in which demand 3's premise held: how far from its share the thread was at the most between any two moments, in ticks, and for how many ticks of its rank it waited at the most; under each figure stands the most that is proved.{left_out}</p>"#
     )
 }
@@ -206,7 +224,7 @@ fn lag(event: &Event, thread: usize, lag: i128) -> String {
             let (times, sum_said) = (grouped(lag.unsigned_abs()), grouped(sum));
             format!(
                 "{}<small>{sign}{times} ÷ {sum_said}</small>",
-                signed_ticks(lag, sum)
+                signed_quotient(lag, sum)
             )
         }
     }
@@ -234,12 +252,15 @@ fn set_cells(names: &Names, thread: usize, set: &Set, got: &Got) -> String {
     };
     let cell = |label: &str, is: String| format!(r#"<td data-label="{label}">{is}</td>"#);
     [
-        cell("Shares rank", format!("{}<small>{with}</small>", set.rank)),
+        cell("Rank", format!("{}<small>{with}</small>", set.rank)),
         cell("Turn", turn),
         cell("Promised share", promise),
         cell(
             "Furthest from its share",
-            most(ticks(own.furthest, sum), ticks(set.far_bound(lane), sum)),
+            most(
+                quotient(own.furthest, sum),
+                quotient(set.far_bound(lane), sum),
+            ),
         ),
         cell(
             "Longest wait",

@@ -1,6 +1,8 @@
 //! The event of a sheet: the recording as the proved programs see it, and all that is counted besides. What is counted is held against
 //! them, request by request and thread by thread; where one figure differs there is no event.
 
+use std::cmp::Reverse;
+
 use model::{code, operation as op, word, RECORD, THREADS};
 use picture::incident::Rule;
 
@@ -20,6 +22,10 @@ pub struct Event {
     /// By the rules, and how the table stands at the end.
     pub ruled: Counts,
     pub end: View,
+    /// The rank of each thread: that at which most ticks were charged while it was ready, or else its rank at the end.
+    pub ranks: [usize; THREADS],
+    /// The threads that ever share a rank, the highest rank first.
+    pub lanes: Vec<usize>,
     /// The same requests by the rule of the incident.
     pub incident: Counts,
 }
@@ -33,6 +39,10 @@ impl Event {
         let bands = Bands::of(ticks);
         let (ruled, end) = ruled(recording, proved, bands)?;
         let incident = incident(recording, proved, bands);
+        let stretches = &ruled.stretches;
+        let ranks = std::array::from_fn(|i| stretches.rank(i).unwrap_or(end.threads[i].rank));
+        let mut lanes: Vec<usize> = (0..THREADS).filter(|&i| stretches.shares(i)).collect();
+        lanes.sort_by_key(|&i| Reverse(ranks[i]));
         let event = Event {
             requests: recording.count(),
             refused: asked(recording, proved)
@@ -41,6 +51,8 @@ impl Event {
             lines: proved.lines.clone(),
             ruled,
             end,
+            ranks,
+            lanes,
             incident,
         };
         event.is_reported()?;
@@ -51,12 +63,6 @@ impl Event {
     /// The report's line of a thread.
     pub fn line(&self, thread: usize) -> Option<&Line> {
         self.lines.iter().find(|line| line.thread == thread)
-    }
-
-    /// The rank of a thread: that at which most ticks were charged while it was ready, or else its rank at the end.
-    pub fn rank(&self, thread: usize) -> usize {
-        let rank = self.ruled.stretches.rank(thread);
-        rank.unwrap_or(self.end.threads[thread].rank)
     }
 
     /// What is counted is what the report says.

@@ -1,12 +1,13 @@
-//! `sheet [--names NAMES] [--revision TEXT] [FILE [OUT.html]]`: makes the page of a recording, FILE or standard input where it is left out or
-//! is -, and writes it to OUT.html or to standard output. Where there is no page, it says why in a line and leaves OUT.html as it was.
+//! `sheet [--names NAMES] [--revision TEXT] [--kit TEXT] [FILE [OUT.html]]`: makes the page of a recording, FILE or standard input where it
+//! is left out or is -, and writes it to OUT.html or to standard output. Where there is no page, it says why in a line and leaves OUT.html as
+//! it was. What the page says of revision and kit is this machine's, unless it is given.
 
 use std::fs::{self, File};
 use std::io::{self, ErrorKind, Write};
 use std::path::{Path, PathBuf};
 use std::process::ExitCode;
 
-use sheet::about::About;
+use sheet::about::{About, Given};
 use sheet::names::Names;
 use sheet::proved::Proved;
 use sheet::recording::Recording;
@@ -20,7 +21,7 @@ const PIPE_CLOSED: u8 = 141;
 #[derive(Default)]
 struct Asked {
     names: Names,
-    revision: Option<String>,
+    origin: Given,
     file: Option<PathBuf>,
     out: Option<PathBuf>,
 }
@@ -49,7 +50,8 @@ fn asked() -> Result<Asked, String> {
         };
         match word.to_str() {
             Some("--names") => asked.names = Names::read(&value("--names")?)?,
-            Some("--revision") => asked.revision = Some(value("--revision")?),
+            Some("--revision") => asked.origin.revision = Some(value("--revision")?),
+            Some("--kit") => asked.origin.kit = Some(value("--kit")?),
             Some(option) if option.starts_with('-') && option != "-" => {
                 return Err(format!("there is no option '{option}'; {ACCEPTED}"));
             }
@@ -86,7 +88,7 @@ fn made(asked: &Asked) -> Result<ExitCode, String> {
     }
     let proved = Proved::ask(&recording)?;
     let event = Event::of(&recording, &proved)?;
-    let about = About::of(file, &recording.bytes, asked.revision.clone())?;
+    let about = About::of(file, &recording.bytes, &asked.origin)?;
     let page = page(&event, &recording, &asked.names, &about);
     match &asked.out {
         Some(out) => put(out, page.as_bytes()).map(|()| ExitCode::SUCCESS),

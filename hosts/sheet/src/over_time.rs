@@ -7,7 +7,6 @@ use std::fmt::Write;
 use model::THREADS;
 
 use crate::bands::{Bands, Course};
-use crate::counts::Counts;
 use crate::event::Event;
 use crate::names::Names;
 use crate::plot::{axis, bars, course, marks};
@@ -41,11 +40,10 @@ pub fn over_time(event: &Event, names: &Names) -> String {
     page += &tracks(event, names);
     page += &scale(bands);
     page += "</div>";
-    let sharing = counts.stretches.sharing();
-    if !sharing.is_empty() {
+    if !event.lanes.is_empty() {
         page += r#"<h3>How far each lane was from its share, in ticks</h3><p class="note">Above 0 it is ahead, below 0 behind. The shaded part lies between the proved bounds; each stretch in which the promise's terms held begins at 0, and where there is no line the lane was not ready or was alone in its rank.</p><div class="plot">"#;
-        for thread in sharing {
-            page += &distance(counts, names, thread);
+        for &thread in &event.lanes {
+            page += &distance(event, names, thread);
         }
         page += &scale(bands);
         page += "</div>";
@@ -57,7 +55,7 @@ pub fn over_time(event: &Event, names: &Names) -> String {
 fn tracks(event: &Event, names: &Names) -> String {
     let counts = &event.ruled;
     let mut threads: Vec<usize> = (0..THREADS).filter(|&i| counts.rows[i].total > 0).collect();
-    threads.sort_by_key(|&i| (Reverse(event.rank(i)), i));
+    threads.sort_by_key(|&i| Reverse(event.ranks[i]));
     let mut page = String::new();
     for thread in threads {
         page += &thread_track(event, names, thread);
@@ -65,8 +63,8 @@ fn tracks(event: &Event, names: &Names) -> String {
     let locked: u64 = counts.locked.iter().sum();
     if locked > 0 {
         let said = format!("{}, charged to nobody", many(locked, "tick"));
-        let bars = bars(&counts.locked, counts.bands, "lock");
-        page += &track("scheduler locked", &said, &bars, "");
+        let bars = bars(&counts.locked, counts.bands);
+        page += &track("lock", "scheduler locked", &said, &bars, "");
     }
     page
 }
@@ -74,39 +72,43 @@ fn tracks(event: &Event, names: &Names) -> String {
 fn thread_track(event: &Event, names: &Names, thread: usize) -> String {
     let counts = &event.ruled;
     let row = &counts.rows[thread];
-    let mut lanes = counts.stretches.sharing().into_iter();
-    let look = match lanes.position(|lane| lane == thread) {
-        Some(at) if at % 2 == 0 => "lane",
-        Some(_) => "lane other",
-        None => "higher",
-    };
     let ticks = many(row.total, "tick");
-    let mut said = format!("rank {}: {ticks}", event.rank(thread));
+    let mut said = format!("rank {}: {ticks}", event.ranks[thread]);
     let mut below = String::new();
     if row.broken > 0 {
         said += &format!(", broken into {}", many(row.broken, "time"));
         let marks = marks(&row.breaks, counts.bands);
         below = format!(r#"<div class="marks">{marks}</div>"#);
     }
-    let bars = bars(&row.ticks, counts.bands, look);
-    track(&names.of(thread), &said, &bars, &below)
+    let bars = bars(&row.ticks, counts.bands);
+    track(ink(event, thread), &names.of(thread), &said, &bars, &below)
 }
 
-fn track(name: &str, said: &str, bars: &str, below: &str) -> String {
+/// What a thread is drawn in: a lane and the next one differ, in every picture.
+pub fn ink(event: &Event, thread: usize) -> &'static str {
+    match event.lanes.iter().position(|&lane| lane == thread) {
+        Some(at) if at % 2 == 0 => "lane",
+        Some(_) => "lane other",
+        None => "alone",
+    }
+}
+
+fn track(ink: &str, name: &str, said: &str, bars: &str, below: &str) -> String {
     let name = escape(name);
     format!(
-        r#"<div class="row track"><div class="name"><b class="label">{name}</b> <small class="label">{said}</small></div><div class="graph" role="img" aria-label="{name}: {said}"><div class="bars">{bars}</div>{below}</div></div>"#
+        r#"<div class="row track {ink}"><div class="name"><b class="label">{name}</b> <small class="label">{said}</small></div><div class="graph" role="img" aria-label="{name}: {said}"><div class="bars">{bars}</div>{below}</div></div>"#
     )
 }
 
 /// The distance of a lane, with its bounds.
-fn distance(counts: &Counts, names: &Names, thread: usize) -> String {
+fn distance(event: &Event, names: &Names, thread: usize) -> String {
+    let counts = &event.ruled;
     let own = &counts.rows[thread].course;
     let reach = shown(own.reach());
-    let name = escape(&names.of(thread));
+    let (ink, name) = (ink(event, thread), escape(&names.of(thread)));
     let bound = said(own.bound());
     format!(
-        r#"<div class="row chart"><div class="name"><b class="label">{name}</b></div>{}<div class="graph tall" role="img" aria-label="{name}: its distance from its share over time, between −{bound} and +{bound} ticks">{}</div></div>"#,
+        r#"<div class="row chart {ink}"><div class="name"><b class="label">{name}</b></div>{}<div class="graph tall" role="img" aria-label="{name}: its distance from its share over time, between −{bound} and +{bound} ticks">{}</div></div>"#,
         labels(own, reach),
         course(own, counts.bands, reach)
     )

@@ -16,7 +16,7 @@ fn columns(bands: Bands) -> usize {
 }
 
 /// A bar for each band, as high as the part of its ticks that count.
-pub fn bars(ticks: &[u64], bands: Bands, look: &str) -> String {
+pub fn bars(ticks: &[u64], bands: Bands) -> String {
     let mut path = format!("M0 {BAR}");
     let mut last = 0;
     for (band, &some) in ticks.iter().enumerate() {
@@ -30,7 +30,7 @@ pub fn bars(ticks: &[u64], bands: Bands, look: &str) -> String {
     svg(
         bands,
         BAR,
-        &format!(r#"<path class="{look}" d="{path}H{end}V{BAR}Z"/>"#),
+        &format!(r#"<path class="bar" d="{path}H{end}V{BAR}Z"/>"#),
     )
 }
 

@@ -34,6 +34,8 @@ fn row(stretch: &Stretch, requests: usize, names: &Names) -> String {
         .clone()
         .map(|lane| format!("{}: {}", escape(&names.of(lane.thread)), grouped(lane.turn)))
         .collect();
+    // a line is broken between two of them, if it can be
+    let turns = turns.join(r#",</span> <span class="each">"#);
     let rounds = stretch.rounds;
     let in_round: Vec<String> = lanes.clone().map(|lane| grouped(lane.turn)).collect();
     let over: Vec<String> = lanes
@@ -43,7 +45,7 @@ fn row(stretch: &Stretch, requests: usize, names: &Names) -> String {
     let over = if left == 0 {
         String::from("0")
     } else {
-        format!("{}: {}", grouped(left), listed(&over))
+        format!("{} ({})", grouped(left), listed(&over))
     };
     let in_round = if rounds == 0 {
         String::from("—")
@@ -70,13 +72,16 @@ fn row(stretch: &Stretch, requests: usize, names: &Names) -> String {
     row += &cell(
         "Requests",
         &format!(
-            "{} to {}",
+            r#"<span class="whole">{} to {}</span>"#,
             grouped(stretch.first as u64),
             grouped(last as u64)
         ),
     );
     row += &cell("Rank", &stretch.rank.to_string());
-    row += &cell("Threads and turns", &turns.join(", "));
+    row += &cell(
+        "Threads and turns",
+        &format!(r#"<span><span class="each">{turns}</span></span>"#),
+    );
     row += &cell("Ticks of the rank", &grouped(stretch.ticks));
     row += &cell(
         "Whole rounds",

@@ -130,17 +130,40 @@ impl Stretches {
         }
     }
 
-    /// The sets in which a thread was, that with the most ticks first.
-    pub fn sets_of(&self, thread: usize) -> Vec<(&Set, &Got)> {
-        let is_in = |set: &Set| set.lanes.iter().any(|lane| lane.thread == thread);
-        let mut sets: Vec<(&Set, &Got)> = self.sets.iter().filter(|(set, _)| is_in(set)).collect();
-        sets.sort_by_key(|(set, got)| (Reverse(got.ticks), *set));
+    /// The sets in which a thread was.
+    pub fn sets_of(&self, thread: usize) -> impl Iterator<Item = (&Set, &Got)> {
+        let is_in = move |set: &Set| set.lanes.iter().any(|lane| lane.thread == thread);
+        self.sets.iter().filter(move |(set, _)| is_in(set))
+    }
+
+    /// So many of them at the most: those that it shares before those in which it was alone, and of each kind that with the most ticks first.
+    pub fn main_sets_of(&self, thread: usize, most: usize) -> Vec<(&Set, &Got)> {
+        let mut sets: Vec<(&Set, &Got)> = self.sets_of(thread).collect();
+        let place = |(set, got): &(&Set, &Got)| (!set.is_shared(), Reverse(got.ticks));
+        sets.sort_by_key(place);
+        sets.truncate(most);
         sets
     }
 
-    /// The rank at which a thread was for the most ticks of it.
+    /// The rank at which most ticks were charged while a thread was ready there, and of two the higher one.
     pub fn rank(&self, thread: usize) -> Option<usize> {
-        self.sets_of(thread).first().map(|(set, _)| set.rank)
+        let mut ticks: BTreeMap<usize, u64> = BTreeMap::new();
+        for (set, got) in self.sets_of(thread) {
+            *ticks.entry(set.rank).or_default() += got.ticks;
+        }
+        let most = ticks.into_iter().max_by_key(|&(_, ticks)| ticks);
+        most.map(|(rank, _)| rank)
+    }
+
+    /// How many sets of threads shared a rank, one after the other.
+    pub fn sets_at(&self, rank: usize) -> usize {
+        let shared = self.sets.keys().filter(|set| set.is_shared());
+        shared.filter(|set| set.rank == rank).count()
+    }
+
+    /// A thread ever shares a rank.
+    pub fn shares(&self, thread: usize) -> bool {
+        self.sets_of(thread).any(|(set, _)| set.is_shared())
     }
 
     /// Of each rank that threads share, the set with the most ticks; the highest rank first.
@@ -153,17 +176,5 @@ impl Stretches {
             }
         }
         mains.into_values().collect()
-    }
-
-    /// The threads that ever share a rank, the highest rank first.
-    pub fn sharing(&self) -> Vec<usize> {
-        let shared = self.sets.keys().rev().filter(|set| set.is_shared());
-        let mut sharing = Vec::new();
-        for lane in shared.flat_map(|set| &set.lanes) {
-            if !sharing.contains(&lane.thread) {
-                sharing.push(lane.thread);
-            }
-        }
-        sharing
     }
 }

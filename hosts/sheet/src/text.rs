@@ -38,8 +38,8 @@ pub fn many(number: u64, word: &str) -> String {
 /// Before a number that is rounded.
 const NEARLY: &str = "≈\u{2009}";
 
-/// A quotient in ticks, to two places where it is no whole number.
-pub fn ticks(times: u128, sum: u64) -> String {
+/// A quotient, to two places where it is no whole number.
+pub fn quotient(times: u128, sum: u64) -> String {
     let sum = u128::from(sum.max(1));
     let (whole, over) = (times / sum, times % sum);
     let (hundredths, rest) = (over * 100 / sum, over * 100 % sum);
@@ -56,8 +56,8 @@ pub fn ticks(times: u128, sum: u64) -> String {
 }
 
 /// The same with a sign: behind is below 0.
-pub fn signed_ticks(times: i128, sum: u64) -> String {
-    let is = ticks(times.unsigned_abs(), sum);
+pub fn signed_quotient(times: i128, sum: u64) -> String {
+    let is = quotient(times.unsigned_abs(), sum);
     let sign = match times {
         0 => "",
         _ if times < 0 => "−",
@@ -78,16 +78,13 @@ pub fn listed(words: &[String]) -> String {
     }
 }
 
-/// A share of a whole in lowest terms, with words for a half, a third and a quarter.
+/// A share of a whole, with words for a half, a third and a quarter, and else in percent.
 pub fn share(turn: u64, sum: u64) -> String {
     match (turn * 2 == sum, turn * 3 == sum, turn * 4 == sum) {
         _ if turn == sum => String::from("all"),
         (true, _, _) => String::from("half"),
         (_, true, _) => String::from("a third"),
         (_, _, true) => String::from("a quarter"),
-        _ => {
-            let tenths = (u128::from(turn) * 1000 + u128::from(sum) / 2) / u128::from(sum);
-            format!("{}.{} %", tenths / 10, tenths % 10)
-        }
+        _ => format!("{}\u{a0}%", quotient(u128::from(turn) * 100, sum)),
     }
 }

@@ -5,29 +5,28 @@ use std::fmt::Write;
 use crate::counts::Counts;
 use crate::event::Event;
 use crate::names::Names;
-use crate::over_time::{labels, shown};
+use crate::over_time::{ink, labels, shown};
 use crate::plot::{bars, course};
 use crate::stretches::{LaneGot, Set};
-use crate::text::{escape, grouped, many, ticks};
+use crate::text::{escape, grouped, many, quotient};
 
 /// A small picture has so many columns at the most.
 const MOST_COLUMNS: usize = 360;
 
 /// What would have happened to the lanes of an event.
 pub fn would_be(event: &Event, names: &Names) -> String {
-    let sharing = event.ruled.stretches.sharing();
     let mut page = String::from(
         r#"<section id="incident"><h2>The same requests under the rule of the incident</h2>"#,
     );
-    if sharing.is_empty() {
+    if event.lanes.is_empty() {
         return page + "<p>No rank was shared, so that this rule has nobody to send behind another.</p></section>";
     }
     page += "<p>By that rule a thread that a higher rank breaks into goes to the back of its line, and what is left of its turn is gone. The requests are the recorded ones: a printer under that rule would soon have made others.</p>";
-    if sharing.iter().all(|&i| is_same(event, i)) {
+    if event.lanes.iter().all(|&i| is_same(event, i)) {
         page += "<p>Here it would have changed nothing that this page shows.</p>";
     }
     page += r#"<div class="pairs">"#;
-    for &thread in &sharing {
+    for &thread in &event.lanes {
         let reach = event.ruled.rows[thread]
             .course
             .reach()
@@ -35,7 +34,8 @@ pub fn would_be(event: &Event, names: &Names) -> String {
         let reach = shown(reach);
         let _ = write!(
             page,
-            r#"<div class="pair"><h3>{}</h3>"#,
+            r#"<div class="pair {}"><h3>{}</h3>"#,
+            ink(event, thread),
             escape(&names.of(thread))
         );
         page += &half(&event.ruled, "By these rules", thread, reach);
@@ -66,7 +66,7 @@ fn half(counts: &Counts, rule: &str, thread: usize, reach: f64) -> String {
     let said = format!("{}{}", many(row.total, "tick"), worst(counts, thread));
     format!(
         r#"<figure><figcaption><b>{rule}:</b> {said}</figcaption><div class="small"><div class="scale"></div><div class="graph bars">{}</div>{}<div class="graph tall" role="img" aria-label="{rule}: {said}">{}</div></div></figure>"#,
-        bars(&ticks, bands, "lane"),
+        bars(&ticks, bands),
         labels(&own, reach),
         course(&own, bands, reach)
     )
@@ -74,7 +74,7 @@ fn half(counts: &Counts, rule: &str, thread: usize, reach: f64) -> String {
 
 /// The worst that the lane met, by the set in which it came furthest.
 fn worst(counts: &Counts, thread: usize) -> String {
-    let sets = counts.stretches.sets_of(thread).into_iter();
+    let sets = counts.stretches.sets_of(thread);
     let shared = sets.filter(|(set, _)| set.is_shared());
     let own = shared.filter_map(|(set, got)| {
         let mut pairs = set.lanes.iter().zip(&got.lanes);
@@ -86,8 +86,8 @@ fn worst(counts: &Counts, thread: usize) -> String {
     furthest.map_or(String::new(), |(set, lane, got)| {
         format!(
             ", up to {} from its share (proved here: {}), waits of up to {} (proved here: {})",
-            ticks(got.furthest, set.sum()),
-            ticks(set.far_bound(lane), set.sum()),
+            quotient(got.furthest, set.sum()),
+            quotient(set.far_bound(lane), set.sum()),
             grouped(got.longest),
             grouped(set.late_bound(lane))
         )

@@ -21,10 +21,11 @@ fn between<'a>(text: &'a str, before: &str, behind: &str) -> &'a str {
 #[test]
 fn the_sheet_in_docs_is_the_programs() {
     let is = fs::read_to_string(top().join(SHEET)).expect("the sheet is there");
-    // a commit cannot name itself: the sheet names the one with which it was made
+    // a commit cannot name itself: the sheet names the one with which it was made, and the kit
     let revision = between(&is, "revision <code>", "</code>");
+    let kit = between(&is, "Rattle kit <code>", "</code>");
     let made = Command::new(env!("CARGO_BIN_EXE_sheet"))
-        .args(["--names", NAMES, "--revision", revision])
+        .args(["--names", NAMES, "--revision", revision, "--kit", kit])
         .arg(top().join(EXAMPLE))
         .output()
         .expect("the program runs");

@@ -8,7 +8,7 @@ use model::{operation as op, random_trace, record, Rng, MOST_RECORDS};
 use programs::top;
 use sheet::about::About;
 use sheet::names::Names;
-use sheet::text::signed_ticks;
+use sheet::text::signed_quotient;
 use sheet::theorems::THEOREMS;
 use told::{about, create, page_of, plain_page, ticks, two_lanes};
 
@@ -108,6 +108,58 @@ fn a_lock_and_a_break_in_are_shown() {
     assert!(page.contains("4 ticks, charged to nobody"), "{page}");
     assert!(page.contains("broken into 1 time"), "{page}");
     assert!(page.contains("not in use at the end"), "{page}");
+}
+
+/// The page has these texts in this order.
+fn in_order(page: &str, texts: &[&str]) {
+    let mut from = 0;
+    for text in texts {
+        let at = page[from..].find(text);
+        from += at.unwrap_or_else(|| panic!("no '{text}' behind the ones before it in {page}"));
+    }
+}
+
+/// Thread 1 is alone for 90 ticks and shares its rank for 20; the turn that is set makes two sets of these.
+#[test]
+fn what_a_thread_shares_comes_before_where_it_is_alone() {
+    let set = record(op::SET_TURN, 2, 0, 4, 0);
+    let bytes = [
+        create(1, 5, 8).to_vec(),
+        ticks(90),
+        create(2, 5, 8).to_vec(),
+        ticks(14),
+        set.to_vec(),
+        ticks(6),
+    ];
+    let page = plain_page(&bytes.concat());
+    in_order(
+        &page,
+        &[
+            r#"<p class="answer">Of the ticks charged to rank 5 while both are ready"#,
+            "of the 14 ticks in one stretch of this recording, in which the promise's terms held, they got",
+            "Rank 5 was shared in 1 other way too",
+            r#"<tbody data-thread="1">"#,
+            "8 of 16",
+            "8 of 12",
+            "alone",
+            r#"<tbody data-thread="2">"#,
+        ],
+    );
+}
+
+/// Lanes of two ranks, which are created in another order: the highest rank comes first, and in it the lowest number.
+#[test]
+fn lanes_stand_by_rank_and_number() {
+    let lanes = [(7, 3), (9, 6), (2, 6), (4, 3)].map(|(thread, rank)| create(thread, rank, 2));
+    let wait = record(op::DELAY, 0, 0, 50, 0);
+    // both of rank 6 wait in the end
+    let steps = [ticks(5), wait.to_vec(), wait.to_vec(), ticks(9)].concat();
+    let page = plain_page(&[lanes.concat(), steps].concat());
+    let rows = ["2", "9", "4", "7", "0"].map(|thread| format!(r#"<tbody data-thread="{thread}">"#));
+    in_order(&page, &rows.each_ref().map(String::as_str));
+    let distances = &page[page.find("How far each lane").expect("distances")..];
+    let names = ["2", "9", "4", "7"].map(|thread| format!("thread {thread}</b>"));
+    in_order(distances, &names.each_ref().map(String::as_str));
 }
 
 #[test]
@@ -215,6 +267,6 @@ fn ticks_are_said_to_two_places() {
         (15, 8, "≈\u{2009}+1.88"),
         (-1_000_000, 3, "≈\u{2009}−333,333.33"),
     ] {
-        assert_eq!(signed_ticks(times, sum), said, "{times} by {sum}");
+        assert_eq!(signed_quotient(times, sum), said, "{times} by {sum}");
     }
 }

@@ -168,6 +168,28 @@ fn a_link_leads_to_the_page() {
     assert_eq!(room.names(), ["link", "page.html"], "nothing else is left");
 }
 
+/// The page names the kit of the file KIT, and where another one is at hand it says so.
+#[test]
+fn another_kit_is_said() {
+    let kit = fs::read_to_string(top().join("KIT")).expect("the file KIT");
+    let kit = kit.trim();
+    let kits = Path::new(env!("CARGO_MANIFEST_DIR")).join("tests/kits");
+    for (folder, said) in [
+        ("named", kit.to_string()),
+        (
+            "other",
+            format!("another kit, and not {kit}, which the file KIT names"),
+        ),
+    ] {
+        let path = std::env::var("PATH").expect("a PATH");
+        let path = format!("{}:{path}", kits.join(folder).display());
+        let run = command().arg(example()).env("PATH", path).output();
+        let page = String::from_utf8(run.expect("it runs").stdout).expect("text");
+        let said = format!("Rattle kit <code>{said}</code>");
+        assert!(page.contains(&said), "no '{said}' in {page}");
+    }
+}
+
 #[test]
 fn words_that_are_not_accepted_are_refused() {
     let one = Path::new("one");
