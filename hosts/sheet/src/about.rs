@@ -12,7 +12,7 @@ use programs::top;
 pub struct About {
     /// The recording's name, or nothing where it came by standard input.
     pub file: Option<String>,
-    /// Its SHA-256.
+    /// The SHA-256 of the requests that count.
     pub digest: String,
     pub version: String,
     pub kit: String,

@@ -9,7 +9,7 @@ use crate::names::Names;
 use crate::over_time::over_time;
 use crate::recording::Recording;
 use crate::stretch_list::stretch_list;
-use crate::text::{escape, many};
+use crate::text::{escape, grouped, many};
 use crate::theorems::THEOREMS;
 use crate::would_be::would_be;
 
@@ -40,7 +40,7 @@ pub fn page(event: &Event, recording: &Recording, names: &Names, about: &About) 
     page.push('\n');
     page += &theorems(about);
     page.push('\n');
-    page += &origin(event, about, &file);
+    page += &origin(recording, about, &file);
     page + "</body></html>\n"
 }
 
@@ -51,7 +51,7 @@ fn summary(event: &Event, recording: &Recording) -> String {
         match event.refused {
             0 => String::from("none was"),
             1 => String::from("1 was"),
-            some => format!("{} were", crate::text::grouped(some as u64)),
+            some => format!("{} were", grouped(some as u64)),
         },
         many(event.ruled.bands.ticks, "tick")
     );
@@ -85,7 +85,7 @@ fn theorems(about: &About) -> String {
     }
     let _ = write!(
         page,
-        r#"</tbody></table></div><p>Speltmallet {}, revision <code>{}</code>; Rattle kit <code>{}</code>. In a clone of that revision, <code>bash .ci/run</code> proves all of it from nothing and runs every test, and <code>rt check lateness</code> proves the bounds alone.</p></section>"#,
+        r#"</tbody></table></div><p>Speltmallet {}, revision <code>{}</code>; Rattle kit <code>{}</code>. In a clone of that revision, <code>bash .ci/run</code> proves all of it from nothing and runs every test; <code>rt check lateness</code> proves the bounds alone, and <code>rt check tight</code> that the kernel's code keeps them.</p></section>"#,
         escape(&about.version),
         escape(&about.revision),
         escape(&about.kit)
@@ -94,13 +94,17 @@ fn theorems(about: &About) -> String {
 }
 
 /// Where the figures come from, and what they do not say.
-fn origin(event: &Event, about: &About, file: &str) -> String {
+fn origin(recording: &Recording, about: &About, file: &str) -> String {
+    let requests = grouped(recording.count() as u64);
+    let digested = match recording.is_stopped || recording.left_over > 0 {
+        true => format!(" of the first {} bytes", recording.bytes.len()),
+        false => String::new(),
+    };
     format!(
-        r#"<section id="origin"><h2>Where the figures come from</h2><p>The answers are those of the proved program <code>trace</code>, ticks charged and lags those of the proved program <code>report</code>. The picture, the stretches and the distances are counted besides, by the project's independent model: all {} of its answers are the trace's and all of its ticks and lags the report's, or there would be no page. The rule of the incident is the model's alone.</p>
+        r#"<section id="origin"><h2>Where the figures come from</h2><p>The answers are those of the proved program <code>trace</code>, ticks charged and lags those of the proved program <code>report</code>. The picture, the stretches and the distances are counted besides, by the project's independent model: all {requests} of its answers are the trace's and all of its ticks and lags the report's, or there would be no page. The rule of the incident is the model's alone.</p>
 <p>That the recording is what the printer did, and which lane prints which seats, is the maker's word. How many ticks a rank gets, and when, is not promised: a higher rank can take the processor for as long as it likes.</p>
-<p class="note">{file}, SHA-256 <code class="digest">{}</code></p></section>
+<p class="note">{file}, SHA-256{digested} <code class="digest">{}</code></p></section>
 "#,
-        crate::text::grouped(event.requests as u64),
         escape(&about.digest)
     )
 }

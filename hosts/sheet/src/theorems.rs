@@ -12,7 +12,7 @@ const fn theorem(says: &'static str, name: &'static str, file: &'static str) -> 
 }
 
 /// Those that the page rests on.
-pub const THEOREMS: [Theorem; 10] = [
+pub const THEOREMS: [Theorem; 11] = [
     theorem(
         "Whatever table and request are handed over, each call ends, and a bad one gets its refusal number and changes nothing.",
         "Demand1",
@@ -62,5 +62,10 @@ pub const THEOREMS: [Theorem; 10] = [
         "Between whole rounds the report's lag is there no further from 0 than t × (R − t).",
         "LagBounds",
         "crates/lateness/specs/Lags.antt",
+    ),
+    theorem(
+        "The demands, the shares, the bounds and the lags hold of the kernel's code: whatever its own contract allows keeps them, and the code meets that contract.",
+        "Kernel",
+        "crates/tight/specs/Kernel.antt",
     ),
 ];

@@ -77,6 +77,10 @@ fn a_page_of_nothing_says_so() {
             [two_lanes(1), vec![1, 2, 3]].concat(),
             "Its last 3 bytes are no whole request and are left out.",
         ),
+        (
+            [two_lanes(1), vec![1, 2, 3]].concat(),
+            "SHA-256 of the first 36 bytes",
+        ),
     ] {
         let page = plain_page(&bytes);
         assert!(page.contains(said), "no '{said}' in {page}");
