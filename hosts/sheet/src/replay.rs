@@ -99,16 +99,16 @@ impl Replay {
             return room;
         }
         let running = self.view.running;
-        let round = self.view.round().unwrap_or_default();
+        let round = self.view.round();
         let sum: u64 = round.iter().map(|&(_, ticks)| ticks).sum();
-        let rounds = room.checked_div(sum).unwrap_or(0);
+        let rounds = room / sum;
         if rounds > 0 {
             self.counts.rounds(&self.view, &round, rounds);
             self.pass(rounds * sum);
             return rounds * sum;
         }
         let turn = self.view.threads[running].counter;
-        let part = room.min(turn.saturating_sub(1));
+        let part = room.min(turn - 1);
         self.counts.charge(&self.view, running, part);
         self.set_counter(running, turn - part);
         self.pass(part);

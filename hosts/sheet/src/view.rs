@@ -92,19 +92,16 @@ impl View {
     }
 
     /// A round of the running thread's rank from here on, if no wait ends in it: the threads by turns, each with its ticks, so that the
-    /// table after it is as before it but for the waits. Nothing where a thread behind the first has less than its whole turn.
-    pub fn round(&self) -> Option<Vec<(usize, u64)>> {
+    /// table after it is as before it but for the waits. The scheduler is not locked, so that the running thread is the first of its line;
+    /// those behind it have whole turns.
+    pub fn round(&self) -> Vec<(usize, u64)> {
         let mut line: Vec<usize> = numbers(self.sets[self.top()]).collect();
         line.sort_unstable_by_key(|&i| self.threads[i].place);
-        let (first, behind) = line.split_first()?;
-        let thread = |i: usize| &self.threads[i];
-        let is_whole = |&i: &usize| thread(i).counter == thread(i).turn;
-        if *first != self.running || !behind.iter().all(is_whole) {
-            return None;
-        }
-        let mut round = vec![(*first, thread(*first).counter)];
-        round.extend(behind.iter().map(|&i| (i, thread(i).turn)));
-        round.push((*first, thread(*first).turn - thread(*first).counter));
-        Some(round)
+        let first = self.threads[self.running];
+        let behind = line.iter().filter(|&&i| i != self.running);
+        let mut round = vec![(self.running, first.counter)];
+        round.extend(behind.map(|&i| (i, self.threads[i].turn)));
+        round.push((self.running, first.turn - first.counter));
+        round
     }
 }

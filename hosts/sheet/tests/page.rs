@@ -166,6 +166,25 @@ fn lanes_stand_by_rank_and_number() {
     in_order(distances, &names.each_ref().map(String::as_str));
 }
 
+/// Six ticks at rank 5, with two turns one after the other, and then four at rank 6.
+#[test]
+fn a_thread_goes_by_the_rank_of_most_of_its_ticks() {
+    let (turn, priority) = (
+        record(op::SET_TURN, 1, 0, 9, 0),
+        record(op::SET_PRIORITY, 1, 6, 0, 0),
+    );
+    let bytes = [
+        &create(1, 5, 8)[..],
+        &ticks(3),
+        &turn,
+        &ticks(3),
+        &priority,
+        &ticks(4),
+    ];
+    let page = plain_page(&bytes.concat());
+    assert!(page.contains("rank 5: 10 ticks"), "{page}");
+}
+
 #[test]
 fn what_ended_a_stretch_is_said() {
     let asked = [
