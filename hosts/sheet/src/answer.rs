@@ -55,7 +55,7 @@ fn shared_otherwise(rank: usize, others: usize) -> String {
     }
     let ways = many(others as u64, "other way");
     format!(
-        r#"<p class="note">Rank {rank} was shared in {ways} too, by other threads or with other turns: the table has the figures.</p>"#
+        r#"<p class="note">Rank {rank} was shared in {ways} too, by other threads or with other turns: the table has those with the most ticks.</p>"#
     )
 }
 

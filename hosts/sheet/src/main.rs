@@ -113,14 +113,13 @@ fn fits(file: &Path, out: &Path) -> Result<(), String> {
     }
 }
 
-/// Puts the page into a file, which has the old page or the whole new one.
+/// Puts the page into a file, which has the old page or the whole new one. A link stays, and the file that it leads to gets the page.
 fn put(out: &Path, page: &[u8]) -> Result<(), String> {
     let fault = |error: io::Error| format!("'{}' can't be written: {error}", out.display());
-    let is_other = fs::metadata(out).is_ok_and(|is| !is.is_file());
-    if is_other {
+    let leads_nowhere = |_| fs::symlink_metadata(out).is_ok();
+    if fs::metadata(out).map_or_else(leads_nowhere, |is| !is.is_file()) {
         return fs::write(out, page).map_err(fault);
     }
-    // a link stays, and the file that it leads to gets the page
     let file = fs::canonicalize(out).unwrap_or_else(|_| out.to_path_buf());
     let name = file
         .file_name()

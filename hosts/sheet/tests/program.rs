@@ -152,20 +152,22 @@ fn nothing_is_lost() {
     assert_eq!(room.names(), ["recording"], "nothing else is left");
 }
 
+/// To a page that is there, and to one that is not there yet.
 #[test]
 fn a_link_leads_to_the_page() {
-    let room = Room::new("link");
-    let (page, link) = (
-        room.file("page.html", b"an older page"),
-        room.0.join("link"),
-    );
-    std::os::unix::fs::symlink(&page, &link).expect("a link");
-    assert!(run(&[&example(), &link]).status.success());
-    assert_eq!(fs::read_link(&link).expect("it is a link still"), page);
-    assert!(fs::read(&page)
-        .expect("the page")
-        .starts_with(b"<!DOCTYPE html>"));
-    assert_eq!(room.names(), ["link", "page.html"], "nothing else is left");
+    for older in [Some("an older page"), None] {
+        let room = Room::new("link");
+        let (page, link) = (room.0.join("page.html"), room.0.join("link"));
+        if let Some(older) = older {
+            fs::write(&page, older).expect("a temporary file");
+        }
+        std::os::unix::fs::symlink(&page, &link).expect("a link");
+        assert!(run(&[&example(), &link]).status.success());
+        assert_eq!(fs::read_link(&link).expect("it is a link still"), page);
+        let written = fs::read(&page).expect("the page");
+        assert!(written.starts_with(b"<!DOCTYPE html>"), "{older:?}");
+        assert_eq!(room.names(), ["link", "page.html"], "nothing else is left");
+    }
 }
 
 /// The page names the kit of the file KIT, and where another one is at hand it says so.
