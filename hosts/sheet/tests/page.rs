@@ -213,35 +213,44 @@ fn what_ended_a_stretch_is_said() {
     }
 }
 
-/// The most that a page can have to show: every thread shares a rank and each is drawn.
+/// As much as a page can have to show: all 16 threads share ranks, which they change all the time, and so are their turns.
 fn crowded(requests: usize) -> Vec<u8> {
     let mut rng = Rng::new(19);
     let mut bytes = record(op::LOCK, 0, 0, 0, 0).to_vec();
+    let rank = |rng: &mut Rng| rng.pick(&[0, 5, 9]);
     for thread in 1..16 {
-        bytes.extend(create(thread, 5, rng.between(1, 9)));
+        bytes.extend(create(thread, rank(&mut rng), rng.between(1, 39)));
     }
     bytes.extend(record(op::UNLOCK, 0, 0, 0, 0));
     while bytes.len() < 12 * requests {
-        bytes.extend(ticks(1));
-        match rng.below(50) {
-            0 => bytes.extend(record(op::YIELD, 0, 0, 0, 0)),
-            1 => bytes.extend(record(op::DELAY, 0, 0, rng.between(1, 50), 0)),
-            2 => bytes.extend(record(
-                op::SET_TURN,
-                rng.between(1, 15) as u8,
-                0,
-                rng.between(1, 9),
-                0,
-            )),
-            _ => {}
-        }
+        let thread = rng.between(1, 15) as u8;
+        bytes.extend(match rng.below(20) {
+            0..=4 => record(op::TICK, 0, 0, 0, 0),
+            5..=8 => record(op::TICKS, 0, 0, rng.between(1, 399), 0),
+            9..=10 => record(op::SET_TURN, thread, 0, rng.between(1, 39), 0),
+            11..=14 => record(op::SET_PRIORITY, thread, rank(&mut rng), 0, 0),
+            15 => record(op::YIELD, 0, 0, 0, 0),
+            16 => record(op::DELAY, 0, 0, rng.between(1, 299), 0),
+            17 => record(op::SUSPEND, thread, 0, 0, 0),
+            _ => record(op::RESUME, thread, 0, 0, 0),
+        });
     }
     bytes
 }
 
+/// With the longest names, of characters that are escaped.
 #[test]
 fn a_crowded_page_is_small() {
-    let page = plain_page(&crowded(60_000));
+    let names = (0..16).map(|thread| format!("{thread}={}", "&".repeat(60)));
+    let names = Names::read(&names.collect::<Vec<String>>().join(",")).expect("names");
+    let page = page_of(&crowded(200_000), &names, &about());
+    // it is crowded: all 16 are drawn
+    assert_eq!(
+        page.matches("its distance from its share over time")
+            .count(),
+        16
+    );
+    assert!(page.len() > MOST_BYTES / 2, "{} bytes", page.len());
     assert!(page.len() < MOST_BYTES, "{} bytes", page.len());
 }
 
