@@ -6,8 +6,8 @@ usage: tools/respell.py ROOT             once, right after port.py: crates/*/src
 
 The table is made from what specs/ and proofs/ declare: `camelCase` and `kebab-case` become `snake_case`; a name with a capital first is a
 type or a fact, and stays. Where a lemma would then have a definition's name, it ends in `_lem`, as the house rules of Rattle have it.
-A word is turned wherever it is spelled so, but in a string, behind `c.`, `tie.` or a folder of proofs/, where Rattle made it, and where the
-file has it from a library.
+A word is turned wherever it is spelled so, but in a string, behind `c.` and `tie.` in a function's proof, where Rattle made it, and where
+the file has it from a library.
 """
 
 import collections
@@ -66,7 +66,7 @@ def table(root):
 def turn_word(word, rows, path):
     """One word of the text: names joined by dots, of which the first and those that are no label of Rattle's turn."""
     parts = word.split(".")
-    behind = parts[0] in ("c", "tie", "goal") or "proofs" in parts[:3]
+    behind = path.endswith("/Proof.antt") and parts[0] in ("c", "tie", "goal") or "proofs" in parts[:3]
     out = []
     for i, part in enumerate(parts):
         lone = part

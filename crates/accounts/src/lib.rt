@@ -1,6 +1,8 @@
 // What each thread is charged while the records of a trace are served: a tick is entered to the thread that was running, ticks that are done at
 // once are entered by the leaps that they are, and a creation begins the thread's account anew. `specs/Accounts.antt` says what some records make of
 // the accounts.
+#![tactic(auto)]
+
 ghost use Rattle.std.specs.Prelude.{◌≡◌, ◌+◌, ◌-◌, ◌*◌, ◌≤◌, length, take, drop};
 ghost use Rattle.std.proofs.lemmas.List.Edits.{sets};
 ghost use Rattle.rules.specs.Board.{printer, table_length};

@@ -1,4 +1,6 @@
 // An answer in document 01's numbers: its code, its value, and the 8 bytes of the answer area that hold both.
+#![tactic(auto)]
+
 ghost use Rattle.std.specs.Prelude.{◌≡◌, length};
 ghost use Rattle.rules.specs.Answers.{refusal_code, code_of, value_of, bits_of, area_length, area_of};
 

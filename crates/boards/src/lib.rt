@@ -1,5 +1,7 @@
 // Which board a table is of: its length says it. Who goes over all threads or all semaphores of a table, or looks for the records behind the
 // threads', asks here.
+#![tactic(auto)]
+
 ghost use Rattle.std.specs.Prelude.{true, ◌↔◌, ◌≡◌, ◌+◌, ◌*◌, ◌≤◌, length};
 ghost use Rattle.rules.specs.Board.{most_threads, record_length};
 ghost use Rattle.layout.specs.Bytes.{sems_from, kernel_from};

@@ -1,4 +1,6 @@
 // Does a table say its state and nothing else? "Bytes given no meaning are zero, every field is in range", record by record.
+#![tactic(auto)]
+
 ghost use Rattle.std.specs.Prelude.{◌≡◌, true, ◌↔◌, ℕ, ◌+◌, ◌*◌, ◌≤◌, ◌<◌, length, get_or};
 ghost use Rattle.rules.specs.Board.{record_length};
 ghost use Rattle.layout.specs.Bytes.{sems_from, kernel_from};

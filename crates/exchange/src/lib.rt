@@ -1,6 +1,8 @@
 // A listing exchanged for its records, or records for their listing, from standard input to standard output. What comes out is decided by the
 // crate `writer`; here bytes come and go. What comes out of a part is written before the next part is read, so that a slow pipe is answered
 // as it speaks.
+#![tactic(auto)]
+
 ghost use Rattle.std.specs.Prelude.{◌≤◌, ◌<◌, ◌^◌, ◌≡◌, length, take};
 ghost use Rattle.std.proofs.Math.Option.{none, some};
 ghost use Rattle.rules.specs.Basic.{if◌then◌else◌};

@@ -1,4 +1,6 @@
 // The kernel: a request's step, and the one door that the firmware calls.
+#![tactic(auto)]
+
 ghost use Rattle.std.specs.Prelude.{◌&&◌, ◌≡◌, eqb, length};
 ghost use Rattle.rules.specs.Board.{printer};
 ghost use Rattle.rules.specs.Answers.{area_length};

@@ -1,1 +1,2 @@
 // Laws of the rules, for every layer above to cite. There is no code here.
+#![tactic(auto)]

@@ -2,6 +2,8 @@
 //
 // The promises are those of crate `records`: one that reads gives what the table says, and one that writes asks for a whole
 // table and says by `Becomes` what the table holds then. A line goes by its number, `line_number`, and its members are known by its mark.
+#![tactic(auto)]
+
 ghost use Rattle.std.specs.Prelude.{◌≡◌, ℕ, ◌*◌, ◌^◌, ◌≤◌, ◌<◌, map};
 ghost use Rattle.rules.specs.Basic.{if◌then◌else◌};
 ghost use Rattle.rules.specs.State.{State, at, is_ready, edit, with_place};

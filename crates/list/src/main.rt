@@ -1,4 +1,6 @@
 // The program `list`: request records on standard input, their listing on standard output.
+#![tactic(auto)]
+
 use listing::Way;
 
 fn main() {

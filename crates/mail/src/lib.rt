@@ -1,6 +1,8 @@
 // Mailboxes: Send, Send from interrupt, Receive. Each operation tests its refusals in document 01's order, before the first write.
 //
 // The promises are those of crate `waiting`: `Becomes` for a change, `Does` for an operation.
+#![tactic(auto)]
+
 ghost use Rattle.std.specs.Prelude.{true};
 ghost use Rattle.rules.specs.State.{at, edit, with_mail};
 ghost use Rattle.rules.specs.Waiting.{end_wait};

@@ -1,5 +1,7 @@
 // Lines by number, and by the bytes that their members' records have in common: the first eight bytes of a record say at one look whether
 // its thread stands in a line, and whether it is the first there.
+#![tactic(auto)]
+
 ghost use Rattle.std.specs.Prelude.{◌≡◌, ◌*◌, ◌<◌, eqb};
 ghost use Rattle.std.specs.Int.Bits.{bit_and};
 ghost use Rattle.rules.specs.Board.{record_length};

@@ -1,4 +1,6 @@
 // An input that comes part by part: what is left over of one part moves to the front of the block, and the next part is read behind it.
+#![tactic(auto)]
+
 ghost use Rattle.std.specs.Prelude.{◌≡◌, ◌-◌, ◌≤◌, length, take, drop};
 ghost use Rattle.std.proofs.lemmas.List.Edits.{sets};
 

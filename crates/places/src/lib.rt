@@ -1,6 +1,8 @@
 // Does each thread stand at a place of its own in its line, with no gap before it? Of each the number of its line is noted, 0 for none, and
 // its place, and each is held against all others. What is noted of the threads is noted once more behind them, as in a ring: so as many
 // entries as there are threads, from any entry on, are those of all threads.
+#![tactic(auto)]
+
 ghost use Rattle.std.specs.Prelude.{◌≡◌, true, false, ◌↔◌, ℕ, ◌+◌, ◌≤◌, ◌<◌, eqb, length};
 ghost use Rattle.rules.specs.Basic.{bit, all_below};
 ghost use Rattle.rules.specs.Board.{most_threads};

@@ -1,1 +1,2 @@
 // A step keeps a table sound. There is no code here.
+#![tactic(auto)]

@@ -1,5 +1,7 @@
 // "The reader keeps the lent buffer and its place in it": a small reader over the bytes of a trace. The work is in
 // `read_at`, on the bytes and the place; `read_from` is for callers, who then never hold a reader themselves.
+#![tactic(auto)]
+
 ghost use Rattle.std.specs.Prelude.{◌≡◌};
 ghost use Rattle.reader.specs.Reading.{read_at};
 

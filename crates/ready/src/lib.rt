@@ -3,6 +3,8 @@
 //
 // A thread goes in three steps: it leaves its line, its record is changed, and it joins the line that it then belongs to. `leave` gives back
 // the bit that goes with it, which whoever changes the record hands on, so that nobody looks at all threads once more.
+#![tactic(auto)]
+
 ghost use Rattle.std.specs.Prelude.{◌≡◌, ℕ, ◌+◌, ◌^◌, ◌≤◌, ◌<◌};
 ghost use Rattle.rules.specs.Board.{top_priority};
 ghost use Rattle.rules.specs.State.{State, free, at, edit, with_wait, with_suspended, with_priority};

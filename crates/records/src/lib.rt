@@ -6,6 +6,8 @@
 // it says, and `Becomes` says of the rule in its last place that a table that held `s` now holds what the rule makes of `s`;
 // the table is whole again. Where a thread's line may change, `Changes` says the same of a table but for its ready word, which is
 // as it was: crate `ready` mends it. Only the bytes that change are written.
+#![tactic(auto)]
+
 ghost use Rattle.std.specs.Prelude.{◌≡◌, ℕ, ◌*◌, set};
 ghost use Rattle.rules.specs.Basic.{bit};
 ghost use Rattle.rules.specs.Board.{record_length};

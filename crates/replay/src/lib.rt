@@ -1,5 +1,7 @@
 // A trace, part by part: whole records are put to the door one after the other, and what is printed of them is put into a lent buffer. What
 // is left over of a part goes before the next one. `specs/Parts.antt` says where a trace stands between two parts.
+#![tactic(auto)]
+
 ghost use Rattle.std.specs.Prelude.{◌≡◌, ◌+◌, ◌*◌, ◌/◌, ◌%◌, ◌≤◌, ◌<◌, ◌^◌, length, take, drop};
 ghost use Rattle.std.proofs.lemmas.List.Edits.{sets};
 ghost use Rattle.rules.specs.Board.{printer, table_length};

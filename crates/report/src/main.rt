@@ -1,6 +1,8 @@
 // The report program: it reads request records from standard input, puts them to the kernel's door from a fresh table on, and at the end
 // prints a line for each thread in use: its number, the ticks charged to it and its lag. What is printed is decided by the crates `accounts` and
 // `lags`; here bytes come and go.
+#![tactic(auto)]
+
 ghost use Rattle.std.specs.Prelude.{◌≡◌, ◌-◌, ◌≤◌, leb, length, take};
 ghost use Rattle.rules.specs.Board.{printer};
 ghost use Rattle.rules.specs.Requests.{request_length};

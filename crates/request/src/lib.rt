@@ -1,4 +1,6 @@
 // A request record of 12 bytes, decoded to the request that it asks.
+#![tactic(auto)]
+
 ghost use Rattle.std.specs.Prelude.{◌≡◌};
 ghost use Rattle.rules.specs.Basic.{if◌then◌else◌};
 ghost use Rattle.rules.specs.Requests.{request_of, decode_request};

@@ -307,7 +307,7 @@ bytes_at t h = take (length h.bytes) (drop (h.index * record_length + h.offset) 
 unfoldable pub given : Case → Shown
 given c =
     let after = table_after printer (fresh_table printer) (map cleanly c.asked) in
-    record { lines = trace printer (joined c.asked ++ c.leftOver); bytes = map (bytes_at after) c.holds }
+    record { lines = trace printer (joined c.asked ++ c.left_over); bytes = map (bytes_at after) c.holds }
 
 unfoldable pub numbered : ℕ → List Seen → ℕ → List TraceLine
 numbered n [] zero = []
@@ -318,7 +318,7 @@ unfoldable pub held_bytes : Held → List ℕ
 held_bytes h = h.bytes
 
 unfoldable pub expected : Case → Shown
-expected c = record { lines = numbered 0 c.seen (length c.leftOver); bytes = map held_bytes c.holds }
+expected c = record { lines = numbered 0 c.seen (length c.left_over); bytes = map held_bytes c.holds }
 
 -- every case gives what document 01 expects of it
 abbrev pub Cases : Type 0

@@ -1,6 +1,7 @@
 // The words of document 01 as types: what a table holds, what is asked of it, and what is answered. Its numbers stand in `numbers`, where
 // the fields of a record stand in `field`, and its refusals as answers in `refused`.
 // What they mean is said in specs/, in definitions that compute; there is no code here.
+#![tactic(auto)]
 
 pub mod field;
 mod numbers;

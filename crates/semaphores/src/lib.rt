@@ -2,6 +2,8 @@
 // first write.
 //
 // The promises are those of crate `waiting`: `Becomes` for a change, `Does` for an operation.
+#![tactic(auto)]
+
 ghost use Rattle.std.specs.Prelude.{◌||◌, ◌≡◌, ◌+◌, min, eqb, ltb};
 ghost use Rattle.rules.specs.Board.{most_count};
 ghost use Rattle.rules.specs.State.{State, sem_at};

@@ -2,6 +2,8 @@
 //
 // Ticks are not done one by one. A leap does some of them in one update: those before a wait ends, of a locked stretch, of whole rounds of the rank
 // that runs, or of a turn that goes on. `leaps/specs` says what a leap is, and that it is as many single ticks.
+#![tactic(auto)]
+
 ghost use Rattle.std.specs.Prelude.{◌≡◌, ◌-◌, ◌≤◌, ◌<◌, min};
 ghost use Rattle.rules.specs.Basic.{if◌then◌else◌};
 ghost use Rattle.rules.specs.State.{State, at, edit, caller, counter_of};

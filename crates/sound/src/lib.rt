@@ -1,5 +1,7 @@
 // Is a table sound? Every record is tested once, in place. The line and the place of each thread are noted on the way, and at the end each
 // is held against all others, and their bits together against the ready word.
+#![tactic(auto)]
+
 ghost use Rattle.std.specs.Prelude.{◌≡◌, true, ◌↔◌, ◌+◌, ◌^◌, ◌≤◌, ◌<◌, length};
 ghost use Rattle.rules.specs.Basic.{all_below};
 ghost use Rattle.rules.specs.State.{State, at};

@@ -1,5 +1,7 @@
 // A program's standard input and output: a read behind the bytes that are held, and a write of what stands ready. A failure is said on
 // standard error, with the program's name before it.
+#![tactic(auto)]
+
 ghost use Rattle.std.specs.Prelude.{◌≤◌, ◌≡◌, length, take};
 
 // How many reads a program makes at the most: more than any machine lives for.

@@ -1,5 +1,7 @@
 // Texts that programs print, put into a lent buffer one after the other: bytes, numbers in decimal, and the lines of a trace. Each function
 // puts its text from place `at` on, leaves every other byte, and answers the place after it.
+#![tactic(auto)]
+
 ghost use Rattle.std.specs.Prelude.{◌≡◌, [], ◌∷◌, ◌++◌, ◌+◌, ◌≤◌, ◌<◌, length};
 ghost use Rattle.rules.specs.Trace.{served, short};
 ghost use Rattle.text.specs.Text.{decimal, signed, line_text};

@@ -2,6 +2,8 @@
 // order, before the first write.
 //
 // The promises are those of crate `waiting`: `Becomes` for a change, `Does` for an operation.
+#![tactic(auto)]
+
 ghost use Rattle.std.specs.Prelude.{not, ◌&&◌, ◌≡◌, eqb};
 ghost use Rattle.rules.specs.State.{is_ready};
 ghost use Rattle.rules.specs.Threads.{do_yield, do_create, do_delete, do_suspend, do_resume, do_delay, do_cancel, do_set_priority, do_set_turn};

@@ -1,4 +1,6 @@
 // The scheduler lock, the tick, and Outcome.
+#![tactic(auto)]
+
 ghost use Rattle.std.specs.Prelude.{◌≡◌, length};
 ghost use Rattle.rules.specs.State.{with_threads};
 ghost use Rattle.rules.specs.Time.{do_lock, do_unlock, charge, charged, timed_out, count_down, timeouts, do_tick, outcome_answer, do_outcome};

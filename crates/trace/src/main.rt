@@ -1,6 +1,8 @@
 // The trace program: it reads request records from standard input, puts them to the kernel's door from a fresh table on, and prints a line
 // for each. What is printed is decided by the crates `replay` and `text`; here bytes come and go. The lines of a part are written before
 // the next part is read, so that a slow pipe is answered as it speaks.
+#![tactic(auto)]
+
 ghost use Rattle.std.specs.Prelude.{◌≡◌, ◌*◌, ◌≤◌, length, take};
 ghost use Rattle.rules.specs.Board.{printer, table_length};
 ghost use Rattle.rules.specs.Requests.{request_length};

@@ -2,6 +2,8 @@
 //
 // `Becomes` says of a rule that a table that held a state now holds what the rule makes of it; `Does` says the same of an operation's
 // rule, and that the answer is the rule's too.
+#![tactic(auto)]
+
 ghost use Rattle.std.specs.Prelude.{true, ◌≡◌, ℕ, pred};
 ghost use Rattle.rules.specs.State.{State, at, waiting, with_wait, with_outcome};
 ghost use Rattle.rules.specs.Lines.{Line, move};

@@ -1,4 +1,6 @@
 // Words of four bytes, the lowest first, read and written in place, and numbers of eight, read.
+#![tactic(auto)]
+
 ghost use Rattle.std.specs.Prelude.{◌≡◌, ◌+◌, ◌≤◌, ◌<◌, length};
 ghost use Rattle.std.proofs.lemmas.List.Edits.{sets};
 ghost use Rattle.rules.specs.Table.{word_bytes, word_at};

@@ -1,4 +1,6 @@
 // The program `write`: a listing on standard input, its request records on standard output.
+#![tactic(auto)]
+
 use listing::Way;
 
 fn main() {

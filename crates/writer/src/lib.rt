@@ -1,5 +1,7 @@
 // A listing turned into request records, and records into a listing, part by part as a program reads them. What a line means, and what comes
 // out of a part, is said in `listing`.
+#![tactic(auto)]
+
 ghost use Rattle.std.specs.Prelude.{◌≡◌, ◌+◌, ◌≤◌, ◌<◌, ◌^◌, length, take};
 ghost use Rattle.std.proofs.Math.Option.{none, some};
 ghost use Rattle.std.proofs.lemmas.List.Edits.{sets};
