@@ -153,7 +153,7 @@ fn servable(number: usize, n: usize) -> usize
 }
 
 // Where a replay stands after a part: how many records are served, and how many bytes are held at the front of the block.
-#[derive(Drop)]
+#[derive(Clone, Copy)]
 pub struct Stood {
     pub number: usize,
     pub held: usize,

@@ -21,7 +21,7 @@ pub const OUT: usize = 6 * BLOCK + 48;
 
 // What the run comes to: how many bytes have come, how many lines or records are done, how many bytes are held at the front of the block, and the
 // place after the refusal.
-#[derive(Drop)]
+#[derive(Clone, Copy)]
 pub struct Done {
     pub bytes: u64,
     pub number: u64,

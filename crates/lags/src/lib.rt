@@ -36,7 +36,7 @@ fn counted(th: Thread, priority: u8, n: u64) -> u64
 }
 
 // What the ready threads of a rank have in all: their turns, and the ticks charged to them.
-#[derive(Drop)]
+#[derive(Clone, Copy)]
 struct Rank {
     turns: u64,
     charged: u64,

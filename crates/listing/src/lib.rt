@@ -3,7 +3,7 @@
 #![tactic(auto)]
 
 // The two ways: lines go to records, or records to lines.
-#[derive(Drop)]
+#[derive(Clone, Copy)]
 pub enum Way {
     ToRecords,
     ToListing,

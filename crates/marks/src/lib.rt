@@ -72,7 +72,7 @@ pub fn line_of(th: Thread) -> u16
 // MARKS
 
 // Which bits of a record's first eight bytes tell that its thread stands in a line, and what they are there.
-#[derive(Drop)]
+#[derive(Clone, Copy)]
 pub struct Mark {
     pub mask: u64,
     pub bytes: u64,

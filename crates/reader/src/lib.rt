@@ -5,14 +5,14 @@
 ghost use Rattle.std.specs.Prelude.{◌≡◌};
 ghost use Rattle.reader.specs.Reading.{read_at};
 
-#[derive(Drop)]
+#[derive(Clone, Copy)]
 pub struct TraceReader<'a> {
     pub bytes: &'a [u8],
     pub at: usize,
 }
 
 // What stands at a place: a whole record, left-over bytes, or nothing.
-#[derive(Drop)]
+#[derive(Clone, Copy)]
 pub enum Read {
     Record { at: usize },
     Short { n: usize },

@@ -76,7 +76,7 @@ fn replay(table: &mut [u8], input: &[u8], first: u64, out: &mut [u8]) -> usize
 
 // Where a trace stands after a part: the number of the next record, how many bytes are held at the front of the block, and the place after
 // the part's lines.
-#[derive(Drop)]
+#[derive(Clone, Copy)]
 pub struct Served {
     pub number: u64,
     pub held: usize,

@@ -23,7 +23,7 @@ const OUT: usize = 8 + THREADS * 35;
 
 // What the run comes to: how many bytes have come, how many records are served, how many bytes are held at the front of the block, and the place
 // after the report.
-#[derive(Drop)]
+#[derive(Clone, Copy)]
 struct Reported {
     bytes: u64,
     number: usize,

@@ -14,7 +14,7 @@ pub use numbers::{
 
 // "A thread has one wait at a time, of one kind": the kind, its object and its counter. A thread that waits for
 // nothing has what is left of its turn as its counter.
-#[derive(Drop)]
+#[derive(Clone, Copy)]
 pub enum Wait {
     Nothing { counter: u32 },
     Delay { counter: u32 },
@@ -24,7 +24,7 @@ pub enum Wait {
 }
 
 // How a thread's last wait ended.
-#[derive(Drop)]
+#[derive(Clone, Copy)]
 pub enum Outcome {
     Done,
     NoneYet,
@@ -32,7 +32,7 @@ pub enum Outcome {
 }
 
 // A thread's record: `value` is its mailbox's, which is `full` or empty.
-#[derive(Drop)]
+#[derive(Clone, Copy)]
 pub struct Thread {
     pub used: bool,
     pub priority: u8,
@@ -47,14 +47,14 @@ pub struct Thread {
 }
 
 // A semaphore's record.
-#[derive(Drop)]
+#[derive(Clone, Copy)]
 pub struct Sem {
     pub used: bool,
     pub count: u8,
 }
 
 // The 24 operations, in the order of their numbers, each with the fields that it uses. No operation has the number 3.
-#[derive(Drop)]
+#[derive(Clone, Copy)]
 pub enum Request {
     Yield,
     Create {
@@ -132,14 +132,14 @@ pub enum Request {
 }
 
 // What a record of 12 bytes asks, if it asks anything.
-#[derive(Drop)]
+#[derive(Clone, Copy)]
 pub enum Decoded {
     Asked { request: Request },
     Bad,
 }
 
 // Why a request is refused: −1 to −8, in this order.
-#[derive(Drop)]
+#[derive(Clone, Copy)]
 pub enum Refusal {
     BadThread,
     BadPriority,
@@ -153,7 +153,7 @@ pub enum Refusal {
 
 // What is answered. `Blocked` says how many stand in the line ahead of the caller. `NoneYet` and `Failed` answer an Outcome that is 1 or −5:
 // they are no refusals.
-#[derive(Drop)]
+#[derive(Clone, Copy)]
 pub enum Answer {
     Done { value: u32 },
     Blocked { ahead: u32 },

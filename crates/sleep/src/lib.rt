@@ -166,7 +166,7 @@ fn round(t: &[u8], priority: u8, most: u32) -> u32
 // A LEAP
 
 // How many ticks were done at once, and how many whole rounds of the rank that runs they are: 0 where they are none.
-#[derive(Drop)]
+#[derive(Clone, Copy)]
 pub struct Leapt {
     pub far: u32,
     pub rounds: u32,

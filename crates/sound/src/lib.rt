@@ -29,7 +29,7 @@ fn number_of(th: Thread) -> u8
 }
 
 // What is found of a thread: it is not sound, or it is, and its bit in the ready word.
-#[derive(Drop)]
+#[derive(Clone, Copy)]
 enum Verdict {
     Bad,
     Good { bit: u32 },

@@ -8,7 +8,7 @@ ghost use Rattle.std.specs.Prelude.{◌≤◌, ◌≡◌, length, take};
 pub const READS: u64 = 1125899906842624;
 
 // What a read leaves: so many bytes are at hand, and whether it failed.
-#[derive(Drop)]
+#[derive(Clone, Copy)]
 pub struct Come {
     pub n: usize,
     pub failed: bool,

@@ -19,7 +19,7 @@ const BLOCK: usize = RECORDS * rules::REQUEST;
 const LINES: usize = RECORDS * 48;
 
 // What the run comes to: how many bytes have come, how many records are served, and the place after the last line.
-#[derive(Drop)]
+#[derive(Clone, Copy)]
 struct Served {
     bytes: u64,
     number: u64,

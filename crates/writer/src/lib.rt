@@ -30,14 +30,14 @@ const TOO_LARGE: u64 = MOST_WORD + 1;
 const LINE_MOST: usize = 40;
 
 // A number that stands in a line, 2^32 in the place of a larger one, and the place after it.
-#[derive(Drop)]
+#[derive(Clone, Copy)]
 pub enum Number {
     NoNumber,
     Read(u64, usize),
 }
 
 // What a line says.
-#[derive(Drop)]
+#[derive(Clone, Copy)]
 pub enum Line {
     BadLine,
     Fields {
@@ -51,7 +51,7 @@ pub enum Line {
 
 // How far a block is turned: how many lines or records are done, the place after them, the place after what is put out of them, and whether
 // what stands next is bad.
-#[derive(Drop)]
+#[derive(Clone, Copy)]
 pub struct Progress {
     pub done: usize,
     pub at: usize,
@@ -61,7 +61,7 @@ pub struct Progress {
 
 // Where a text stands after a part: the number of the next line or record, how many bytes are held at the front of the block, the place after
 // what is put out of the part, and whether the text is stopped by what is bad.
-#[derive(Drop)]
+#[derive(Clone, Copy)]
 pub struct Turned {
     pub number: u64,
     pub held: usize,

@@ -50,7 +50,7 @@ nothing_entered ns (Ask.SetTurn i n) ran lock k = refl
 enum_told : tie.Need-enum-told
 enum_told c = search rules
 
-mul-accounts : tie.Need-overflow-mul-accounts
+mul-accounts : tie.Need-overflow_mul-accounts
 mul-accounts c =
     let found : c.before.before.before.args.ran < length c.before.before.before.args.accounts.now = rw c.before.enum_told.given.1 at c.before.before.before.requires.0 in
     search (rules, found)
@@ -58,7 +58,7 @@ mul-accounts c =
 slice-read-accounts : tie.Need-slice-read-accounts
 slice-read-accounts c = rw c.before.before.enum_told.given.1 at c.before.before.before.before.requires.0
 
-add-accounts : tie.Need-overflow-add-accounts
+add-accounts : tie.Need-overflow_add-accounts
 add-accounts c = record { fits = omega (arith, c.before.before.before.before.requires.1 c.before.before.before.before.args.ran) }
 
 slice-write-accounts : tie.Need-slice-write-accounts
@@ -67,10 +67,10 @@ slice-write-accounts c = rw c.before.before.enum_told.given.1 at c.before.before
 enum-known-request : tie.Need-enum-known-request
 enum-known-request c = search rules
 
-cast-accounts : tie.Need-overflow-cast-accounts
+cast-accounts : tie.Need-overflow_cast-accounts
 cast-accounts c = search rules
 
-mul-accounts-2 : tie.Need-overflow-mul-accounts-2
+mul-accounts-2 : tie.Need-overflow_mul-accounts-2
 mul-accounts-2 c = search rules
 
 slice-write-accounts-2 : tie.Need-slice-write-accounts-2

@@ -28,13 +28,13 @@ serve-records-requires c κs =
     let size = length-take-le start.args.n start.args.block.now start.requires.1.1.1 in
     (start.requires.0, ((start.requires.1.0.0, λ i. omega (arith, k, start.requires.1.0.1 i)), omega (arith, k, size)))
 
-mul-keep : tie.Need-overflow-mul-keep
+mul-keep : tie.Need-overflow_mul-keep
 mul-keep c = search rules
 
 keep-requires : tie.Need-keep-requires
 keep-requires c κs = search rules
 
-add-t17 : tie.Need-overflow-add-t17
+add-t17 : tie.Need-overflow_add-t17
 add-t17 c = search rules
 
 same_length : tie.Need-same-length

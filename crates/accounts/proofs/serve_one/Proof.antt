@@ -13,10 +13,10 @@ use Rattle.accounts.proofs.Accepted.{code_is}
 use Rattle.accounts.proofs.serve_one.Statement.{statement}
 use Rattle.accounts.proofs.serve_one.Tie as tie
 
-add-speltmallet-door : tie.Need-overflow-add-speltmallet-door
+add-speltmallet-door : tie.Need-overflow_add-speltmallet-door
 add-speltmallet-door c = search rules
 
-sub-speltmallet-door : tie.Need-overflow-sub-speltmallet-door
+sub-speltmallet-door : tie.Need-overflow_sub-speltmallet-door
 sub-speltmallet-door c = search rules
 
 part-speltmallet-door-start : tie.Need-slice-bounds-speltmallet-door-start

@@ -8,10 +8,10 @@ use Rattle.fairness.specs.Run.{deed, at_once}
 use Rattle.accounts.proofs.serve_record.Statement.{statement}
 use Rattle.accounts.proofs.serve_record.Tie as tie
 
-add-decode : tie.Need-overflow-add-decode
+add-decode : tie.Need-overflow_add-decode
 add-decode c = search rules
 
-sub-decode : tie.Need-overflow-sub-decode
+sub-decode : tie.Need-overflow_sub-decode
 sub-decode c = search rules
 
 part-decode-start : tie.Need-slice-bounds-decode-start

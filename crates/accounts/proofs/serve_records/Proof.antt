@@ -28,7 +28,7 @@ loop-holds : tie.Need-loop-init invariant-loop decreases-loop
 unfolding table_after records run_of
 loop-holds c = (omega arith, refl, refl, refl, sym (accounts_none 0 c.before.before.before.args.accounts.now))
 
-mul-serve-record : tie.Need-overflow-mul-serve-record invariant-loop decreases-loop
+mul-serve-record : tie.Need-overflow_mul-serve-record invariant-loop decreases-loop
 mul-serve-record c = search rules
 
 serve-record-requires : tie.Need-serve-record-requires invariant-loop decreases-loop
@@ -45,7 +45,7 @@ serve-record-requires c κs =
       ((inv.2 ∙ start.requires.1.0.0, λ i. omega (arith, within i, ap (λ l. of l i) inv.4, more)), omega (arith, more, start.requires.1.1)),
     )
 
-add-j : tie.Need-overflow-add-j invariant-loop decreases-loop
+add-j : tie.Need-overflow_add-j invariant-loop decreases-loop
 add-j c = search rules
 
 loop-less : tie.Need-loop-smaller invariant-loop decreases-loop

@@ -23,10 +23,10 @@ whole : (z : ℤ) → SFits w32 z → lt_z (to_z w32 (of_z w32 z)) (pos 0) ≡ f
 whole (pos n) fits e = (to_z-of_z w32 (pos n) fits, refl)
 whole (negsuc n) fits e = absurd (true≢false (rw (to_z-of_z w32 (negsuc n) fits) at e))
 
-cast-result : tie.Need-overflow-cast-result
+cast-result : tie.Need-overflow_cast-result
 cast-result c = rw (negative c.before.args.code c.before.ranges.code c.if1.true).0 (tt, record { fits = omega arith })
 
-cast-result-2 : tie.Need-overflow-cast-result-2
+cast-result-2 : tie.Need-overflow_cast-result-2
 cast-result-2 c = rw (whole c.before.args.code c.before.ranges.code c.if1.false).0 (tt, record { fits = omega arith })
 
 returns : tie.Need-returns

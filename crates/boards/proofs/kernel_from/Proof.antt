@@ -11,10 +11,10 @@ threads-requires c κs = search rules
 semaphores-requires : tie.Need-semaphores-requires
 semaphores-requires c κs = search rules
 
-add-result : tie.Need-overflow-add-result
+add-result : tie.Need-overflow_add-result
 add-result c = omega (arith, c.before.threads.ensures, c.semaphores.ensures)
 
-mul-result : tie.Need-overflow-mul-result
+mul-result : tie.Need-overflow_mul-result
 mul-result c = omega (arith, c.before.threads.ensures, c.semaphores.ensures)
 
 returns : tie.Need-returns

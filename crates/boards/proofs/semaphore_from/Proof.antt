@@ -8,10 +8,10 @@ use Rattle.boards.proofs.semaphore_from.Tie as tie
 threads-requires : tie.Need-threads-requires
 threads-requires c κs = search rules
 
-add-result : tie.Need-overflow-add-result
+add-result : tie.Need-overflow_add-result
 add-result c = search rules
 
-mul-result : tie.Need-overflow-mul-result
+mul-result : tie.Need-overflow_mul-result
 mul-result c = search rules
 
 returns : tie.Need-returns

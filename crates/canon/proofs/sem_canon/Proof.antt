@@ -9,7 +9,7 @@ use Rattle.canon.proofs.sem_canon.Tie as tie
 semaphore-from-requires : tie.Need-semaphore-from-requires
 semaphore-from-requires c κs = search rules
 
-add-if1 : tie.Need-overflow-add-if1
+add-if1 : tie.Need-overflow_add-if1
 add-if1 c = search rules
 
 shared-slice-read-if1 : tie.Need-shared-slice-read-if1

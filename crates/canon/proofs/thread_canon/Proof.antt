@@ -5,40 +5,40 @@ use Rattle.layout.specs.Canon.{thread_canon}
 use Rattle.canon.proofs.thread_canon.Statement.{statement}
 use Rattle.canon.proofs.thread_canon.Tie as tie
 
-mul-base : tie.Need-overflow-mul-base
+mul-base : tie.Need-overflow_mul-base
 mul-base c = search rules
 
-add-head-canon : tie.Need-overflow-add-head-canon
+add-head-canon : tie.Need-overflow_add-head-canon
 add-head-canon c = search rules
 
 shared-slice-read-head-canon : tie.Need-shared-slice-read-head-canon
 shared-slice-read-head-canon c = search rules
 
-add-head-canon-2 : tie.Need-overflow-add-head-canon-2
+add-head-canon-2 : tie.Need-overflow_add-head-canon-2
 add-head-canon-2 c = search rules
 
 shared-slice-read-head-canon-2 : tie.Need-shared-slice-read-head-canon-2
 shared-slice-read-head-canon-2 c = search rules
 
-add-head-canon-3 : tie.Need-overflow-add-head-canon-3
+add-head-canon-3 : tie.Need-overflow_add-head-canon-3
 add-head-canon-3 c = search rules
 
 shared-slice-read-head-canon-3 : tie.Need-shared-slice-read-head-canon-3
 shared-slice-read-head-canon-3 c = search rules
 
-add-head-canon-4 : tie.Need-overflow-add-head-canon-4
+add-head-canon-4 : tie.Need-overflow_add-head-canon-4
 add-head-canon-4 c = search rules
 
 shared-slice-read-head-canon-4 : tie.Need-shared-slice-read-head-canon-4
 shared-slice-read-head-canon-4 c = search rules
 
-add-head-canon-5 : tie.Need-overflow-add-head-canon-5
+add-head-canon-5 : tie.Need-overflow_add-head-canon-5
 add-head-canon-5 c = search rules
 
 shared-slice-read-head-canon-5 : tie.Need-shared-slice-read-head-canon-5
 shared-slice-read-head-canon-5 c = search rules
 
-add-head-canon-6 : tie.Need-overflow-add-head-canon-6
+add-head-canon-6 : tie.Need-overflow_add-head-canon-6
 add-head-canon-6 c = search rules
 
 shared-slice-read-head-canon-6 : tie.Need-shared-slice-read-head-canon-6

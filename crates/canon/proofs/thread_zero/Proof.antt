@@ -8,7 +8,7 @@ use Rattle.canon.proofs.Zeros.{record_is_zero}
 use Rattle.canon.proofs.thread_zero.Statement.{statement}
 use Rattle.canon.proofs.thread_zero.Tie as tie
 
-mul-base : tie.Need-overflow-mul-base
+mul-base : tie.Need-overflow_mul-base
 mul-base c = search rules
 
 long-at-requires : tie.Need-long-at-requires

@@ -20,16 +20,16 @@ decreases-loop t base first all₀ q₀ all q = 3 - q
 loop-holds : tie.Need-loop-init invariant-loop decreases-loop
 loop-holds c = (omega arith, omega arith, (λ e. (e, λ k h l. absurd (omega arith)), λ h. h.0))
 
-mul-long-at : tie.Need-overflow-mul-long-at invariant-loop decreases-loop
+mul-long-at : tie.Need-overflow_mul-long-at invariant-loop decreases-loop
 mul-long-at c = omega arith
 
-add-long-at : tie.Need-overflow-add-long-at invariant-loop decreases-loop
+add-long-at : tie.Need-overflow_add-long-at invariant-loop decreases-loop
 add-long-at c = omega arith
 
 long-at-requires : tie.Need-long-at-requires invariant-loop decreases-loop
 long-at-requires c κs = omega arith
 
-add-q : tie.Need-overflow-add-q invariant-loop decreases-loop
+add-q : tie.Need-overflow_add-q invariant-loop decreases-loop
 add-q c = omega arith
 
 loop-less : tie.Need-loop-smaller invariant-loop decreases-loop

@@ -42,10 +42,10 @@ returns c =
     ended_going c.before.before.before.before.before.before.before.before.read_behind.new.1.0 c.before.before.close.ensures.0.0 c.before.before.close.ensures.0.1 c.before.before.close.ensures.0.2 (omega (arith, c.before.before.close.ensures.1.1, c.before.before.before.before.before.before.before.before.before.before.before.loop.invariant.0, c.before.before.before.before.before.before.before.before.before.before.before.before.before.before.before.requires.1.1)) (omega (arith, c.before.before.before.before.before.before.before.before.read_behind.ensures.0))
     (same_held c.before.before.before.before.before.before.before.before.before.before.before.loop.block c.before.before.before.before.before.before.before.before.read_behind.new.1.0 c.before.before.before.before.before.before.before.before.before.before.before.loop.held c.before.before.before.before.before.before.before.before.read_behind.ensures.1 c.before.before.before.before.before.before.before.before.before.before.before.loop.invariant.5) c.before.before.close.ensures.1.0
 
-sub-bytes : tie.Need-overflow-sub-bytes invariant-loop decreases-loop
+sub-bytes : tie.Need-overflow_sub-bytes invariant-loop decreases-loop
 sub-bytes c = search rules
 
-add-bytes : tie.Need-overflow-add-bytes invariant-loop decreases-loop
+add-bytes : tie.Need-overflow_add-bytes invariant-loop decreases-loop
 add-bytes c = search rules
 
 turn-requires : tie.Need-turn-requires invariant-loop decreases-loop
@@ -70,7 +70,7 @@ returns_2 c =
     (omega (arith, c.before.before.before.before.before.before.before.before.before.before.before.before.before.turn.ensures.1.1.1.0, holds_room c.before.before.before.before.before.before.before.before.before.before.before.before.before.before.before.before.before.before.before.before.before.before.before.before.before.before.args.way (take c.before.before.before.before.before.before.before.before.before.before.before.before.before.before.before.before.before.before.before.read_behind.result.n c.before.before.before.before.before.before.before.before.before.before.before.before.before.before.before.before.before.before.before.read_behind.new.1.0), length-take-le c.before.before.before.before.before.before.before.before.before.before.before.before.before.before.before.before.before.before.before.read_behind.result.n c.before.before.before.before.before.before.before.before.before.before.before.before.before.before.before.before.before.before.before.read_behind.new.1.0 c.before.before.before.before.before.before.before.before.before.before.before.before.before.before.before.before.before.before.before.read_behind.ensures.0.1, c.before.before.before.before.before.before.before.before.before.before.before.before.before.before.before.before.before.before.before.read_behind.ensures.0, c.before.before.before.before.before.before.before.before.before.before.before.before.before.turn.auto.1.1.0))
     c.before.before.close2.ensures.1.0
 
-sub-reads : tie.Need-overflow-sub-reads invariant-loop decreases-loop
+sub-reads : tie.Need-overflow_sub-reads invariant-loop decreases-loop
 sub-reads c = search rules
 
 loop-less : tie.Need-loop-smaller invariant-loop decreases-loop

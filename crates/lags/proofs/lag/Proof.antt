@@ -14,19 +14,19 @@ ahead c = ahead_most c.args.charged c.args.turns c.requires.0.0 c.requires.0.1
 due : (c : tie.Start) → c.args.turn * c.args.all ≤ most
 due c = due_most c.args.turn c.args.all c.requires.1.0 c.requires.1.1
 
-mul-result : tie.Need-overflow-mul-result
+mul-result : tie.Need-overflow_mul-result
 mul-result c = record { fits = omega (arith, ahead c, due c) }
 
-cast-result : tie.Need-overflow-cast-result
+cast-result : tie.Need-overflow_cast-result
 cast-result c = record { sfits = omega (arith, ahead c, due c) }
 
-mul-result-2 : tie.Need-overflow-mul-result-2
+mul-result-2 : tie.Need-overflow_mul-result-2
 mul-result-2 c = record { fits = omega (arith, ahead c, due c) }
 
-cast-result-2 : tie.Need-overflow-cast-result-2
+cast-result-2 : tie.Need-overflow_cast-result-2
 cast-result-2 c = record { sfits = omega (arith, ahead c, due c) }
 
-sub-result : tie.Need-overflow-sub-result
+sub-result : tie.Need-overflow_sub-result
 sub-result c = rw (exact _ _ (ahead c) (due c)) (fits _ _ (ahead c) (due c))
 
 returns : tie.Need-returns

@@ -40,13 +40,13 @@ returns c =
 rank-of-requires : tie.Need-rank-of-requires
 rank-of-requires c κs = search rules
 
-mul-lag : tie.Need-overflow-mul-lag
+mul-lag : tie.Need-overflow_mul-lag
 mul-lag c = search rules
 
 shared-slice-read-lag : tie.Need-shared-slice-read-lag
 shared-slice-read-lag c = search rules
 
-cast-lag : tie.Need-overflow-cast-lag
+cast-lag : tie.Need-overflow_cast-lag
 cast-lag c = search rules
 
 lag-requires : tie.Need-lag-requires

@@ -44,7 +44,7 @@ put-field-requires c κs =
     let start = c.before.before.before.before.before.before.before.before in
     omega (arith, room start, start.requires.1.1.1)
 
-mul-put-field : tie.Need-overflow-mul-put-field
+mul-put-field : tie.Need-overflow_mul-put-field
 mul-put-field c = search rules
 
 shared-slice-read-put-field : tie.Need-shared-slice-read-put-field

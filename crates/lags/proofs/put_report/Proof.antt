@@ -38,7 +38,7 @@ put-lane-requires c κs =
     let inv = c.before.before.loop.invariant in
     (c.before.loop-test.true, (start.requires.0, (start.requires.1.0, omega (arith, inv.1, inv.2, c.before.loop-test.true, c.before.before.before.before.before.put-stopped.auto, start.requires.1.1))))
 
-add-i : tie.Need-overflow-add-i invariant-loop decreases-loop
+add-i : tie.Need-overflow_add-i invariant-loop decreases-loop
 add-i c = search rules
 
 loop-less : tie.Need-loop-smaller invariant-loop decreases-loop

@@ -38,13 +38,13 @@ load-thread-requires c κs =
     let long = c.before.before.before.before.requires.0.0 in
     (omega (arith, c.loop-test.true, long), printer_long long)
 
-cast-counted : tie.Need-overflow-cast-counted invariant-loop decreases-loop
+cast-counted : tie.Need-overflow_cast-counted invariant-loop decreases-loop
 cast-counted c = search rules
 
 counted-requires : tie.Need-counted-requires invariant-loop decreases-loop
 counted-requires c κs = search rules
 
-add-turns : tie.Need-overflow-add-turns invariant-loop decreases-loop
+add-turns : tie.Need-overflow_add-turns invariant-loop decreases-loop
 add-turns c =
     let start = c.before.before.before.before.before.before.before in
     let s = decode printer start.args.table.now in
@@ -55,7 +55,7 @@ add-turns c =
     let turned : c.counted.result ≡ (if in_line (ready p) (at s.threads j) then (at s.threads j).turn else 0) = rw own at c.counted.ensures in
     record { fits = omega (arith, turned, inv.0, inv.1, turn_most s start.requires.0.1 p j) }
 
-mul-counted : tie.Need-overflow-mul-counted invariant-loop decreases-loop
+mul-counted : tie.Need-overflow_mul-counted invariant-loop decreases-loop
 mul-counted c = search rules
 
 shared-slice-read-counted : tie.Need-shared-slice-read-counted invariant-loop decreases-loop
@@ -64,7 +64,7 @@ shared-slice-read-counted c = search rules
 counted-requires-2 : tie.Need-counted-requires-2 invariant-loop decreases-loop
 counted-requires-2 c κs = search rules
 
-add-charged : tie.Need-overflow-add-charged invariant-loop decreases-loop
+add-charged : tie.Need-overflow_add-charged invariant-loop decreases-loop
 add-charged c =
     let start = c.before.before.before.before.before.before.before.before.before in
     let s = decode printer start.args.table.now in
@@ -75,7 +75,7 @@ add-charged c =
     let charged : c.counted2.result ≡ (if in_line (ready p) (at s.threads j) then of start.args.accounts.now j else 0) = rw own at c.counted2.ensures in
     record { fits = omega (arith, charged, inv.0, inv.2, start.requires.1.1 j, counted_most (in_line (ready p) (at s.threads j)) (of start.args.accounts.now j)) }
 
-add-j : tie.Need-overflow-add-j invariant-loop decreases-loop
+add-j : tie.Need-overflow_add-j invariant-loop decreases-loop
 add-j c = search rules
 
 loop-less : tie.Need-loop-smaller invariant-loop decreases-loop

@@ -47,7 +47,7 @@ loop-holds c = (
 move-up-requires : tie.Need-move-up-requires invariant-loop decreases-loop
 move-up-requires c κs = (omega (arith, c.before.before.before.threads.ensures, c.before.before.loop.invariant.4), c.before.before.loop.invariant.3, power_fits c.before.before.loop.power c.before.before.loop.j c.before.before.loop.invariant.2 (omega (arith, c.before.before.before.threads.ensures)))
 
-add-j : tie.Need-overflow-add-j invariant-loop decreases-loop
+add-j : tie.Need-overflow_add-j invariant-loop decreases-loop
 add-j c = omega arith
 
 loop-less : tie.Need-loop-smaller invariant-loop decreases-loop

@@ -4,10 +4,10 @@ use Rattle.lines.proofs.Powers.{exponent_is}
 use Rattle.lines.proofs.exponent.Statement.{statement}
 use Rattle.lines.proofs.exponent.Tie as tie
 
-sub-result : tie.Need-overflow-sub-result
+sub-result : tie.Need-overflow_sub-result
 sub-result c = (exponent_is c.args.power c.requires (search rules)).0
 
-cast-result : tie.Need-overflow-cast-result
+cast-result : tie.Need-overflow_cast-result
 cast-result c = search rules
 
 returns : tie.Need-returns

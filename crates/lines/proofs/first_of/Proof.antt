@@ -39,7 +39,7 @@ returns c =
     λ s l e q. sym (find_at (is_first l) free s.threads c.before.before.before.loop.j (omega (arith, c.before.before.before.before.threads.ensures, (sized c.before.before.before.before.before.before.before.requires.long e).threads)) (c.before.before.before.loop.invariant.1 s l e q)
     (sym (c.before.has-mark.ensures.1.1 s l (whole_says c.before.before.before.before.before.before.before.requires e) (c.before.before.before.before.before.first-mark.ensures l q)) ∙ c.if1.true))
 
-add-j : tie.Need-overflow-add-j invariant-loop decreases-loop
+add-j : tie.Need-overflow_add-j invariant-loop decreases-loop
 add-j c = omega arith
 
 loop-less : tie.Need-loop-smaller invariant-loop decreases-loop

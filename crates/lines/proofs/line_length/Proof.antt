@@ -39,7 +39,7 @@ has-mark-requires c κs = (omega (arith, c.before.before.threads.ensures), c.bef
 counted-requires : tie.Need-counted-requires invariant-loop decreases-loop
 counted-requires c κs = power_fits c.before.before.loop.power c.before.before.loop.j c.before.before.loop.invariant.2 (omega (arith, c.before.before.before.threads.ensures))
 
-add-j : tie.Need-overflow-add-j invariant-loop decreases-loop
+add-j : tie.Need-overflow_add-j invariant-loop decreases-loop
 add-j c = omega arith
 
 loop-less : tie.Need-loop-smaller invariant-loop decreases-loop

@@ -9,7 +9,7 @@ use Rattle.layout.proofs.Held.{becomes_as}
 use Rattle.mail.proofs.empty_mailbox.Statement.{statement}
 use Rattle.mail.proofs.empty_mailbox.Tie as tie
 
-cast-senders-line : tie.Need-overflow-cast-senders-line
+cast-senders-line : tie.Need-overflow_cast-senders-line
 cast-senders-line c = let n = counted _ c.before.requires.1.long in record { fits = omega (arith, n.threads, n.most, c.before.requires.0) }
 
 senders-line-requires : tie.Need-senders-line-requires

@@ -11,13 +11,13 @@ use Rattle.marks.proofs.first_mark.Tie as tie
 mark-of-requires : tie.Need-mark-of-requires
 mark-of-requires c κs = search rules
 
-mul-t3 : tie.Need-overflow-mul-t3
+mul-t3 : tie.Need-overflow_mul-t3
 mul-t3 c = search rules
 
-add-t4 : tie.Need-overflow-add-t4
+add-t4 : tie.Need-overflow_add-t4
 add-t4 c = record { fits = omega (arith, (known_low c.before.before.args.line c.before.mark_of.result c.before.mark_of.ensures).0) }
 
-add-t5 : tie.Need-overflow-add-t5
+add-t5 : tie.Need-overflow_add-t5
 add-t5 c = record { fits = omega (arith, (known_low c.before.before.before.args.line c.before.before.mark_of.result c.before.before.mark_of.ensures).1) }
 
 returns : tie.Need-returns

@@ -4,34 +4,34 @@ use borrow.Author.Rules.{rules}
 use Rattle.marks.proofs.kind_mark.Statement.{statement}
 use Rattle.marks.proofs.kind_mark.Tie as tie
 
-mul-t4 : tie.Need-overflow-mul-t4
+mul-t4 : tie.Need-overflow_mul-t4
 mul-t4 c = search rules
 
-add-t5 : tie.Need-overflow-add-t5
+add-t5 : tie.Need-overflow_add-t5
 add-t5 c = search rules
 
-mul-t6 : tie.Need-overflow-mul-t6
+mul-t6 : tie.Need-overflow_mul-t6
 mul-t6 c = search rules
 
-add-t7 : tie.Need-overflow-add-t7
+add-t7 : tie.Need-overflow_add-t7
 add-t7 c = search rules
 
-mul-t8 : tie.Need-overflow-mul-t8
+mul-t8 : tie.Need-overflow_mul-t8
 mul-t8 c = search rules
 
-add-t9 : tie.Need-overflow-add-t9
+add-t9 : tie.Need-overflow_add-t9
 add-t9 c = search rules
 
-mul-t10 : tie.Need-overflow-mul-t10
+mul-t10 : tie.Need-overflow_mul-t10
 mul-t10 c = search rules
 
-add-t11 : tie.Need-overflow-add-t11
+add-t11 : tie.Need-overflow_add-t11
 add-t11 c = search rules
 
-mul-t12 : tie.Need-overflow-mul-t12
+mul-t12 : tie.Need-overflow_mul-t12
 mul-t12 c = search rules
 
-add-t13 : tie.Need-overflow-add-t13
+add-t13 : tie.Need-overflow_add-t13
 add-t13 c = search rules
 
 returns : tie.Need-returns

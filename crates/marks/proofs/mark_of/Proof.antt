@@ -10,16 +10,16 @@ use Rattle.marks.proofs.mark_of.Tie as tie
 returns : tie.Need-returns
 returns c = λ l e. ap mark_of (sym (none_of l (sym c.if1.true ∙ e)))
 
-sub-object : tie.Need-overflow-sub-object
+sub-object : tie.Need-overflow_sub-object
 sub-object c = search rules
 
 returns_2 : tie.Need-returns-2
 returns_2 c = λ l e. beyond l c.before.before.args.line e c.if2.true
 
-sub-kind-mark : tie.Need-overflow-sub-kind-mark
+sub-kind-mark : tie.Need-overflow_sub-kind-mark
 sub-kind-mark c = search rules
 
-cast-kind-mark : tie.Need-overflow-cast-kind-mark
+cast-kind-mark : tie.Need-overflow_cast-kind-mark
 cast-kind-mark c = search rules
 
 kind-mark-requires : tie.Need-kind-mark-requires

@@ -15,13 +15,13 @@ invariant-loop block₀ from n held i₀ block i = (length block ≡ length bloc
 abbrev decreases-loop : tie.decreases-loop
 decreases-loop block₀ from n held i₀ block i = held - i
 
-sub_held : tie.Need-overflow-sub-held invariant-loop decreases-loop
+sub_held : tie.Need-overflow_sub-held invariant-loop decreases-loop
 sub_held c = search rules
 
 loop-holds : tie.Need-loop-init invariant-loop decreases-loop
 loop-holds c = (refl, omega arith, refl)
 
-add-block : tie.Need-overflow-add-block invariant-loop decreases-loop
+add-block : tie.Need-overflow_add-block invariant-loop decreases-loop
 add-block c = search rules
 
 slice-read-block : tie.Need-slice-read-block invariant-loop decreases-loop
@@ -30,7 +30,7 @@ slice-read-block c = search rules
 slice-write-block : tie.Need-slice-write-block invariant-loop decreases-loop
 slice-write-block c = search rules
 
-add-i : tie.Need-overflow-add-i invariant-loop decreases-loop
+add-i : tie.Need-overflow_add-i invariant-loop decreases-loop
 add-i c = search rules
 
 loop-less : tie.Need-loop-smaller invariant-loop decreases-loop

@@ -21,13 +21,13 @@ loop-holds c = (omega arith, paste-zero c.args.ring.now c.args.n c.args.ring.now
 slice-read-ring : tie.Need-slice-read-ring invariant-loop decreases-loop
 slice-read-ring c = omega (arith, copy_long c.before.before.before.args.ring.now c.before.before.before.args.n c.before.before.loop.i c.before.before.before.requires.2 c.before.before.loop.invariant.0 c.before.before.loop.invariant.1)
 
-add-ring : tie.Need-overflow-add-ring invariant-loop decreases-loop
+add-ring : tie.Need-overflow_add-ring invariant-loop decreases-loop
 add-ring c = omega arith
 
 slice-write-ring : tie.Need-slice-write-ring invariant-loop decreases-loop
 slice-write-ring c = omega (arith, copy_long c.before.before.before.args.ring.now c.before.before.before.args.n c.before.before.loop.i c.before.before.before.requires.2 c.before.before.loop.invariant.0 c.before.before.loop.invariant.1)
 
-add-i : tie.Need-overflow-add-i invariant-loop decreases-loop
+add-i : tie.Need-overflow_add-i invariant-loop decreases-loop
 add-i c = omega arith
 
 loop-less : tie.Need-loop-smaller invariant-loop decreases-loop

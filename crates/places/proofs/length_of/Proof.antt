@@ -14,7 +14,7 @@ invariant-loop lines n from line length₀ k₀ k-end length k = (from ≤ k) ×
 abbrev decreases-loop : tie.decreases-loop
 decreases-loop lines n from line length₀ k₀ k-end length k = from + n - k
 
-add-k-end : tie.Need-overflow-add-k-end invariant-loop decreases-loop
+add-k-end : tie.Need-overflow_add-k-end invariant-loop decreases-loop
 add-k-end c = omega arith
 
 loop-holds : tie.Need-loop-init invariant-loop decreases-loop
@@ -26,10 +26,10 @@ shared-slice-read-same c = omega (arith, c.before.before.before.before.requires.
 same-requires : tie.Need-same-requires invariant-loop decreases-loop
 same-requires c κs = search rules
 
-add-length : tie.Need-overflow-add-length invariant-loop decreases-loop
+add-length : tie.Need-overflow_add-length invariant-loop decreases-loop
 add-length c = omega (arith, c.before.before.before.loop.invariant.2, c.same.ensures.1, count_most (c.before.before.before.loop.k - c.before.before.before.before.before.args.from) (λ m. entry_in c.before.before.before.before.before.args.lines.now c.before.before.before.before.before.args.line (c.before.before.before.before.before.args.from + m)))
 
-add-k : tie.Need-overflow-add-k invariant-loop decreases-loop
+add-k : tie.Need-overflow_add-k invariant-loop decreases-loop
 add-k c = omega arith
 
 loop-less : tie.Need-loop-smaller invariant-loop decreases-loop

@@ -4,19 +4,19 @@ use borrow.Author.Rules.{rules}
 use Rattle.places.proofs.misplaced_at.Statement.{statement}
 use Rattle.places.proofs.misplaced_at.Tie as tie
 
-add-line : tie.Need-overflow-add-line
+add-line : tie.Need-overflow_add-line
 add-line c = search rules
 
 shared-slice-read-line : tie.Need-shared-slice-read-line
 shared-slice-read-line c = search rules
 
-add-place : tie.Need-overflow-add-place
+add-place : tie.Need-overflow_add-place
 add-place c = search rules
 
 shared-slice-read-place : tie.Need-shared-slice-read-place
 shared-slice-read-place c = search rules
 
-add-shared : tie.Need-overflow-add-shared
+add-shared : tie.Need-overflow_add-shared
 add-shared c = search rules
 
 shared-requires : tie.Need-shared-requires

@@ -22,7 +22,7 @@ loop-holds c = (omega arith, (λ e m h. absurd (omega arith), λ h. refl))
 misplaced-at-requires : tie.Need-misplaced-at-requires invariant-loop decreases-loop
 misplaced-at-requires c κs = (omega arith, c.before.before.before.before.requires.0, c.before.before.before.before.requires.1)
 
-add-j : tie.Need-overflow-add-j invariant-loop decreases-loop
+add-j : tie.Need-overflow_add-j invariant-loop decreases-loop
 add-j c = omega arith
 
 loop-less : tie.Need-loop-smaller invariant-loop decreases-loop

@@ -21,7 +21,7 @@ invariant-loop lines places n from line place found₀ k₀ k-end found k =
 abbrev decreases-loop : tie.decreases-loop
 decreases-loop lines places n from line place found₀ k₀ k-end found k = from + n - k
 
-add-k-end : tie.Need-overflow-add-k-end invariant-loop decreases-loop
+add-k-end : tie.Need-overflow_add-k-end invariant-loop decreases-loop
 add-k-end c = omega arith
 
 loop-holds : tie.Need-loop-init invariant-loop decreases-loop
@@ -39,7 +39,7 @@ shared-slice-read-same-2 c = omega (arith, c.before.before.before.before.before.
 same-requires-2 : tie.Need-same-requires-2 invariant-loop decreases-loop
 same-requires-2 c κs = search rules
 
-add-k : tie.Need-overflow-add-k invariant-loop decreases-loop
+add-k : tie.Need-overflow_add-k invariant-loop decreases-loop
 add-k c = omega arith
 
 loop-less : tie.Need-loop-smaller invariant-loop decreases-loop

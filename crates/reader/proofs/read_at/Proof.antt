@@ -5,7 +5,7 @@ use Rattle.reader.specs.Reading.{read_at}
 use Rattle.reader.proofs.read_at.Statement.{statement}
 use Rattle.reader.proofs.read_at.Tie as tie
 
-sub-n : tie.Need-overflow-sub-n
+sub-n : tie.Need-overflow_sub-n
 sub-n c = search rules
 
 returns : tie.Need-returns

@@ -5,10 +5,10 @@ use Rattle.ready.proofs.Mended.{top_bit}
 use Rattle.ready.proofs.highest.Statement.{statement}
 use Rattle.ready.proofs.highest.Tie as tie
 
-cast-result : tie.Need-overflow-cast-result
+cast-result : tie.Need-overflow_cast-result
 cast-result c = record { fits = omega (arith, (top_bit c.args.word c.requires (search rules)).0) }
 
-sub-result : tie.Need-overflow-sub-result
+sub-result : tie.Need-overflow_sub-result
 sub-result c = (top_bit c.args.word c.requires (search rules)).0
 
 returns : tie.Need-returns

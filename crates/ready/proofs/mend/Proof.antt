@@ -17,7 +17,7 @@ load-thread-requires c κs = search rules
 word-requires : tie.Need-word-requires
 word-requires c κs = search rules
 
-sub-others : tie.Need-overflow-sub-others
+sub-others : tie.Need-overflow_sub-others
 sub-others c = omega (arith, c.word.ensures, c.before.before.before.before.before.requires.2.enough)
 
 ready-bit-requires : tie.Need-ready-bit-requires

@@ -16,10 +16,10 @@ returns c = rw (sym c.before.is-ready.ensures ∙ not-true _ c.if1.true)
 returns_2 : tie.Need-returns-2
 returns_2 c = rw (sym c.before.before.is-ready.ensures ∙ not-false _ c.before.if1.false, lt-leb c.before.before.before.args.th.priority top_priority c.if2.true)
 
-cast-result : tie.Need-overflow-cast-result
+cast-result : tie.Need-overflow_cast-result
 cast-result c = search rules
 
-shl-result : tie.Need-overflow-shl-result
+shl-result : tie.Need-overflow_shl-result
 shl-result c = search rules
 
 returns-3 : tie.Need-returns-3

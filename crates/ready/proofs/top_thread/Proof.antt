@@ -57,7 +57,7 @@ loop-holds c = (omega arith, λ s e. below_none _)
 leads-ready-requires : tie.Need-leads-ready-requires invariant-loop decreases-loop invariant-found decreases-found
 leads-ready-requires c κs = (omega (arith, c.before.before.before.before.threads.ensures), c.before.before.before.before.before.before.before.before.requires)
 
-add-j : tie.Need-overflow-add-j invariant-loop decreases-loop invariant-found decreases-found
+add-j : tie.Need-overflow_add-j invariant-loop decreases-loop invariant-found decreases-found
 add-j c = omega arith
 
 loop-less : tie.Need-loop-smaller invariant-loop decreases-loop invariant-found decreases-found
@@ -66,7 +66,7 @@ loop-less c = omega arith
 loop-again : tie.Need-loop-preserved invariant-loop decreases-loop invariant-found decreases-found
 loop-again c = (omega arith, λ s e. below_more _ _ (c.before.before.before.loop.invariant.1 s e) (sym (c.before.leads-ready.ensures s e) ∙ c.if2.false))
 
-sub-p : tie.Need-overflow-sub-p invariant-loop decreases-loop invariant-found decreases-found
+sub-p : tie.Need-overflow_sub-p invariant-loop decreases-loop invariant-found decreases-found
 sub-p c = omega arith
 
 found-less : tie.Need-found-smaller invariant-loop decreases-loop invariant-found decreases-found

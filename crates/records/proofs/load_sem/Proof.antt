@@ -9,13 +9,13 @@ use Rattle.records.proofs.load_sem.Tie as tie
 semaphore-from-requires : tie.Need-semaphore-from-requires
 semaphore-from-requires c κs = search rules
 
-add-t4 : tie.Need-overflow-add-t4
+add-t4 : tie.Need-overflow_add-t4
 add-t4 c = search rules
 
 shared-slice-read-t6 : tie.Need-shared-slice-read-t6
 shared-slice-read-t6 c = search rules
 
-add-t8 : tie.Need-overflow-add-t8
+add-t8 : tie.Need-overflow_add-t8
 add-t8 c = search rules
 
 shared-slice-read-t10 : tie.Need-shared-slice-read-t10

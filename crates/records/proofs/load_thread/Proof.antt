@@ -7,22 +7,22 @@ use Rattle.records.proofs.load_thread.Statement.{statement}
 use Rattle.layout.proofs.Boards.{thread_told}
 use Rattle.records.proofs.load_thread.Tie as tie
 
-mul-base : tie.Need-overflow-mul-base
+mul-base : tie.Need-overflow_mul-base
 mul-base c = search rules
 
-add-word-at : tie.Need-overflow-add-word-at
+add-word-at : tie.Need-overflow_add-word-at
 add-word-at c = search rules
 
 word-at-requires : tie.Need-word-at-requires
 word-at-requires c κs = search rules
 
-add-wait-of : tie.Need-overflow-add-wait-of
+add-wait-of : tie.Need-overflow_add-wait-of
 add-wait-of c = search rules
 
 shared-slice-read-wait-of : tie.Need-shared-slice-read-wait-of
 shared-slice-read-wait-of c = search rules
 
-add-wait-of-2 : tie.Need-overflow-add-wait-of-2
+add-wait-of-2 : tie.Need-overflow_add-wait-of-2
 add-wait-of-2 c = search rules
 
 shared-slice-read-wait-of-2 : tie.Need-shared-slice-read-wait-of-2
@@ -31,7 +31,7 @@ shared-slice-read-wait-of-2 c = search rules
 wait-of-requires : tie.Need-wait-of-requires
 wait-of-requires c κs = search rules
 
-add-outcome-of : tie.Need-overflow-add-outcome-of
+add-outcome-of : tie.Need-overflow_add-outcome-of
 add-outcome-of c = search rules
 
 shared-slice-read-outcome-of : tie.Need-shared-slice-read-outcome-of
@@ -40,49 +40,49 @@ shared-slice-read-outcome-of c = search rules
 outcome-of-requires : tie.Need-outcome-of-requires
 outcome-of-requires c κs = search rules
 
-add-word-at-2 : tie.Need-overflow-add-word-at-2
+add-word-at-2 : tie.Need-overflow_add-word-at-2
 add-word-at-2 c = search rules
 
 word-at-requires-2 : tie.Need-word-at-requires-2
 word-at-requires-2 c κs = search rules
 
-add-word-at-3 : tie.Need-overflow-add-word-at-3
+add-word-at-3 : tie.Need-overflow_add-word-at-3
 add-word-at-3 c = search rules
 
 word-at-requires-3 : tie.Need-word-at-requires-3
 word-at-requires-3 c κs = search rules
 
-add-word-at-4 : tie.Need-overflow-add-word-at-4
+add-word-at-4 : tie.Need-overflow_add-word-at-4
 add-word-at-4 c = search rules
 
 word-at-requires-4 : tie.Need-word-at-requires-4
 word-at-requires-4 c κs = search rules
 
-add-t10 : tie.Need-overflow-add-t10
+add-t10 : tie.Need-overflow_add-t10
 add-t10 c = search rules
 
 shared-slice-read-t15 : tie.Need-shared-slice-read-t15
 shared-slice-read-t15 c = search rules
 
-add-t13 : tie.Need-overflow-add-t13
+add-t13 : tie.Need-overflow_add-t13
 add-t13 c = search rules
 
 shared-slice-read-t12 : tie.Need-shared-slice-read-t12
 shared-slice-read-t12 c = search rules
 
-add-t20 : tie.Need-overflow-add-t20
+add-t20 : tie.Need-overflow_add-t20
 add-t20 c = search rules
 
 shared-slice-read-t22 : tie.Need-shared-slice-read-t22
 shared-slice-read-t22 c = search rules
 
-add-t24 : tie.Need-overflow-add-t24
+add-t24 : tie.Need-overflow_add-t24
 add-t24 c = search rules
 
 shared-slice-read-t26 : tie.Need-shared-slice-read-t26
 shared-slice-read-t26 c = search rules
 
-add-t27 : tie.Need-overflow-add-t27
+add-t27 : tie.Need-overflow_add-t27
 add-t27 c = search rules
 
 shared-slice-read-t29 : tie.Need-shared-slice-read-t29

@@ -7,7 +7,7 @@ use Rattle.records.proofs.lock.Tie as tie
 kernel-from-requires : tie.Need-kernel-from-requires
 kernel-from-requires c κs = search rules
 
-add-result : tie.Need-overflow-add-result
+add-result : tie.Need-overflow_add-result
 add-result c = search rules
 
 shared-slice-read-result : tie.Need-shared-slice-read-result

@@ -10,13 +10,13 @@ use Rattle.records.proofs.running.Tie as tie
 kernel-from-requires : tie.Need-kernel-from-requires
 kernel-from-requires c κs = search rules
 
-add-result : tie.Need-overflow-add-result
+add-result : tie.Need-overflow_add-result
 add-result c = search rules
 
 shared-slice-read-result : tie.Need-shared-slice-read-result
 shared-slice-read-result c = search rules
 
-cast-result : tie.Need-overflow-cast-result
+cast-result : tie.Need-overflow_cast-result
 cast-result c = record { fits = omega (arith, c.shared-slice-known2.given (c.before.kernel-from.result + 0)) }
 
 returns : tie.Need-returns

@@ -11,7 +11,7 @@ use Rattle.records.proofs.set_lock.Tie as tie
 kernel-from-requires : tie.Need-kernel-from-requires
 kernel-from-requires c κs = search rules
 
-add-t : tie.Need-overflow-add-t
+add-t : tie.Need-overflow_add-t
 add-t c = search rules
 
 slice-write-t : tie.Need-slice-write-t

@@ -11,10 +11,10 @@ use Rattle.layout.proofs.Flat.{Within}
 use Rattle.records.proofs.set_priority.Statement.{statement}
 use Rattle.records.proofs.set_priority.Tie as tie
 
-mul-t : tie.Need-overflow-mul-t
+mul-t : tie.Need-overflow_mul-t
 mul-t c = search rules
 
-add-t : tie.Need-overflow-add-t
+add-t : tie.Need-overflow_add-t
 add-t c = search rules
 
 slice-write-t : tie.Need-slice-write-t

@@ -13,10 +13,10 @@ use Rattle.records.proofs.set_running.Tie as tie
 kernel-from-requires : tie.Need-kernel-from-requires
 kernel-from-requires c κs = search rules
 
-cast_t : tie.Need-overflow-cast-t
+cast_t : tie.Need-overflow_cast-t
 cast_t c = let n = counted _ c.before.before.before.requires.1.long in record { fits = omega (arith, n.threads, n.most, c.before.before.before.requires.0) }
 
-add-t : tie.Need-overflow-add-t
+add-t : tie.Need-overflow_add-t
 add-t c = search rules
 
 slice-write-t : tie.Need-slice-write-t

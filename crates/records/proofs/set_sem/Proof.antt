@@ -17,13 +17,13 @@ semaphore-from-requires c κs = search rules
 flag-requires : tie.Need-flag-requires
 flag-requires c κs = search rules
 
-add-t : tie.Need-overflow-add-t
+add-t : tie.Need-overflow_add-t
 add-t c = search rules
 
 slice-write-t : tie.Need-slice-write-t
 slice-write-t c = search rules
 
-add-t-2 : tie.Need-overflow-add-t-2
+add-t-2 : tie.Need-overflow_add-t-2
 add-t-2 c = search rules
 
 slice-write-t-2 : tie.Need-slice-write-t-2

@@ -11,10 +11,10 @@ use Rattle.layout.proofs.Flat.{Within}
 use Rattle.records.proofs.set_turn.Statement.{statement}
 use Rattle.records.proofs.set_turn.Tie as tie
 
-mul-put-word : tie.Need-overflow-mul-put-word
+mul-put-word : tie.Need-overflow_mul-put-word
 mul-put-word c = search rules
 
-add-put-word : tie.Need-overflow-add-put-word
+add-put-word : tie.Need-overflow_add-put-word
 add-put-word c = search rules
 
 put-word-requires : tie.Need-put-word-requires

@@ -8,7 +8,7 @@ use Rattle.records.proofs.set_word.Tie as tie
 kernel-from-requires : tie.Need-kernel-from-requires
 kernel-from-requires c κs = search rules
 
-add-put-word : tie.Need-overflow-add-put-word
+add-put-word : tie.Need-overflow_add-put-word
 add-put-word c = search rules
 
 put-word-requires : tie.Need-put-word-requires

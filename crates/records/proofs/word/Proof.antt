@@ -9,7 +9,7 @@ use Rattle.records.proofs.word.Tie as tie
 kernel-from-requires : tie.Need-kernel-from-requires
 kernel-from-requires c κs = search rules
 
-add-word-at : tie.Need-overflow-add-word-at
+add-word-at : tie.Need-overflow_add-word-at
 add-word-at c = search rules
 
 word-at-requires : tie.Need-word-at-requires

@@ -22,7 +22,7 @@ array-write-t-4 c = search rules
 array-write-t-5 : tie.Need-array-write-t-5
 array-write-t-5 c = search rules
 
-add-t : tie.Need-overflow-add-t
+add-t : tie.Need-overflow_add-t
 add-t c = search rules
 
 array-write-t-6 : tie.Need-array-write-t-6

@@ -67,13 +67,13 @@ was_whole c =
     let taken = c.before.before.before.before.before.before.before.before.«record» in
     whole _ _ _ _ read.ensures taken.given.1
 
-add-number : tie.Need-overflow-add-number invariant-loop decreases-loop
+add-number : tie.Need-overflow_add-number invariant-loop decreases-loop
 add-number c =
     let loop = c.before.before.before.before.before.before.before.before.before.before.before.loop in
     let start = c.before.before.before.before.before.before.before.before.before.before.before.before.before.before.before in
     omega (arith, loop.invariant.2.count, loop.invariant.2.place, was_whole c, start.requires.1.0)
 
-add_at : tie.Need-overflow-add-at invariant-loop decreases-loop
+add_at : tie.Need-overflow_add-at invariant-loop decreases-loop
 add_at c = omega (arith, was_whole c)
 
 loop-less : tie.Need-loop-smaller invariant-loop decreases-loop

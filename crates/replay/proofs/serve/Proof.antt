@@ -28,13 +28,13 @@ replay-requires c κs =
     let come = length-take-le start.args.n start.args.block.now start.requires.1.0 in
     (start.requires.0, (omega (arith, come, start.requires.1.1.0), rw come start.requires.1.1.1))
 
-mul-keep : tie.Need-overflow-mul-keep
+mul-keep : tie.Need-overflow_mul-keep
 mul-keep c = search rules
 
 keep-requires : tie.Need-keep-requires
 keep-requires c κs = search rules
 
-add-t19 : tie.Need-overflow-add-t19
+add-t19 : tie.Need-overflow_add-t19
 add-t19 c = search rules
 
 same_length : tie.Need-same-length

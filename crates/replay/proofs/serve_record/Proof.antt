@@ -16,10 +16,10 @@ use Rattle.replay.proofs.Line.{line_put}
 use Rattle.replay.proofs.serve_record.Statement.{statement}
 use Rattle.replay.proofs.serve_record.Tie as tie
 
-add-speltmallet-door : tie.Need-overflow-add-speltmallet-door
+add-speltmallet-door : tie.Need-overflow_add-speltmallet-door
 add-speltmallet-door c = search rules
 
-sub-speltmallet-door : tie.Need-overflow-sub-speltmallet-door
+sub-speltmallet-door : tie.Need-overflow_sub-speltmallet-door
 sub-speltmallet-door c = search rules
 
 part-speltmallet-door-start : tie.Need-slice-bounds-speltmallet-door-start
@@ -43,7 +43,7 @@ word-at-requires c κs = search rules
 running-requires : tie.Need-running-requires
 running-requires c κs = printer_long (c.before.before.before.before.before.before.speltmallet-door.auto.0 ∙ c.before.before.before.before.before.before.before.before.before.before.before.before.before.requires.0)
 
-cast-put-line : tie.Need-overflow-cast-put-line
+cast-put-line : tie.Need-overflow_cast-put-line
 cast-put-line c = omega (arith, c.before.before.before.before.before.before.slice-known3.given 576, c.before.running.ensures _ (said_printer _ (c.before.before.before.before.before.before.before.before.speltmallet-door.auto.0 ∙ c.before.before.before.before.before.before.before.before.before.before.before.before.before.before.before.requires.0)) ∙ running_said printer _)
 
 put-line-requires : tie.Need-put-line-requires

@@ -58,10 +58,10 @@ returns c =
     (omega (arith, come.ensures.0)) _ _ _ closed.ensures.0.0 closed.ensures.0.1 closed.ensures.0.2 closed.ensures.1.0
     (omega (arith, closed.ensures.1.1, loop.invariant.3, start.requires.1.1.2))
 
-sub-bytes : tie.Need-overflow-sub-bytes invariant-loop decreases-loop
+sub-bytes : tie.Need-overflow_sub-bytes invariant-loop decreases-loop
 sub-bytes c = search rules
 
-add-bytes : tie.Need-overflow-add-bytes invariant-loop decreases-loop
+add-bytes : tie.Need-overflow_add-bytes invariant-loop decreases-loop
 add-bytes c = search rules
 
 serve-requires : tie.Need-serve-requires invariant-loop decreases-loop
@@ -112,7 +112,7 @@ returns_2 c =
     (omega (arith, served.ensures.0.1, come.ensures.0, served.auto.1.1.1.0)) _ _ _ closed.ensures.0.0 closed.ensures.0.1 closed.ensures.0.2 closed.ensures.1.0
     (omega (arith, closed.ensures.1.1, loop.invariant.3, start.requires.1.1.2))
 
-sub-reads : tie.Need-overflow-sub-reads invariant-loop decreases-loop
+sub-reads : tie.Need-overflow_sub-reads invariant-loop decreases-loop
 sub-reads c = search rules
 
 loop-less : tie.Need-loop-smaller invariant-loop decreases-loop

@@ -38,7 +38,7 @@ returns-3 : tie.Need-returns-3
 unfolding do_make
 returns-3 c = does_nothing c.before.before.before.before.before.before.before.before.requires.whole (λ s e. rw (lt-leb (length s.sems) c.before.before.before.before.before.before.before.before.args.k (omega (arith, c.before.before.before.before.before.semaphores.ensures, (sized c.before.before.before.before.before.before.before.before.requires.whole.long e).sems)), ← c.before.before.load-sem.ensures s e, c.before.if2.false, lt-ltb most_count c.before.before.before.before.before.before.before.before.args.n c.if3.true))
 
-cast-set-count : tie.Need-overflow-cast-set-count
+cast-set-count : tie.Need-overflow_cast-set-count
 cast-set-count c = search rules
 
 set-count-requires : tie.Need-set-count-requires

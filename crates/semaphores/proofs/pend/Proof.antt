@@ -24,7 +24,7 @@ returns : tie.Need-returns
 unfolding do_pend
 returns c = does_nothing c.before.before.before.before.before.requires.whole (λ s e. rw (← c.before.before.sem-at.ensures s e, c.if1.true))
 
-sub-left : tie.Need-overflow-sub-left
+sub-left : tie.Need-overflow_sub-left
 sub-left c = search rules
 
 set-count-requires : tie.Need-set-count-requires
@@ -32,7 +32,7 @@ set-count-requires c κs =
     let start = c.before.before.before.before.before.before.before.before.before in
     (sem_there c.before.before.before.before.before.before.before.before.before.requires.whole.long start.args.k c.before.before.before.before.before.before.sem-at.ensures c.before.before.before.before.if1.false, start.requires.whole)
 
-cast-accept : tie.Need-overflow-cast-accept
+cast-accept : tie.Need-overflow_cast-accept
 cast-accept c = search rules
 
 accept-requires : tie.Need-accept-requires

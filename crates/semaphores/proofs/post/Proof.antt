@@ -29,10 +29,10 @@ line-length-requires c κs = search rules
 served-by-requires : tie.Need-served-by-requires
 served-by-requires c κs = search rules
 
-cast-over : tie.Need-overflow-cast-over
+cast-over : tie.Need-overflow_cast-over
 cast-over c = search rules
 
-sub-over : tie.Need-overflow-sub-over
+sub-over : tie.Need-overflow_sub-over
 sub-over c = search rules
 
 too-many-requires : tie.Need-too-many-requires
@@ -52,13 +52,13 @@ returns_2 c =
 serve-requires : tie.Need-serve-requires
 serve-requires c κs = search rules
 
-cast-set-count : tie.Need-overflow-cast-set-count
+cast-set-count : tie.Need-overflow_cast-set-count
 cast-set-count c =
     let sem-at = c.before.before.before.before.before.before.before.before.before.before.before.before.before.sem-at in
     let served-by = c.before.before.before.before.before.before.before.served-by in
     omega (arith, sum_fits sem-at.result.count c.before.before.before.before.before.before.before.before.before.before.before.before.before.before.before.before.args.n (c.before.before.before.before.before.before.before.before.before.before.before.before.before.before.before.before.args.n - served-by.result) c.before.before.before.before.before.before.too_many.ensures c.before.before.before.before.before.if2.false)
 
-add-set-count : tie.Need-overflow-add-set-count
+add-set-count : tie.Need-overflow_add-set-count
 add-set-count c =
     let sem-at = c.before.before.before.before.before.before.before.before.before.before.before.before.before.before.sem-at in
     let served-by = c.before.before.before.before.before.before.before.before.served-by in

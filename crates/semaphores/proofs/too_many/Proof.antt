@@ -13,7 +13,7 @@ returns c = rw (eq-eqb c.before.args.n 0 c.if1.true)
 returns_2 : tie.Need-returns-2
 returns_2 c = rw (ne_eqb c.before.before.args.n 0 c.before.if1.false, lt-ltb most_count (c.before.before.args.count + c.before.before.args.over) (omega arith))
 
-add-result : tie.Need-overflow-add-result
+add-result : tie.Need-overflow_add-result
 add-result c = search rules
 
 returns-3 : tie.Need-returns-3

@@ -39,7 +39,7 @@ round-requires c κs = (c.before.before.before.before.before.before.requires.who
 div-rounds : tie.Need-nonzero-div-rounds
 div-rounds c = omega (arith, round_some _ c.before.before.before.before.before.before.before.before.requires.sound, rank _ c.before.before.before.before.before.running.ensures c.before.before.before.load-thread.ensures _ refl, c.before.round.ensures.0 c.if1.true)
 
-mul-far : tie.Need-overflow-mul-far
+mul-far : tie.Need-overflow_mul-far
 mul-far c =
     let some : 1 ≤ c.before.round.result = omega (arith, round_some _ c.before.before.before.before.before.before.before.before.requires.sound, rank _ c.before.before.before.before.before.running.ensures c.before.before.before.load-thread.ensures _ refl, c.before.round.ensures.0 c.if1.true) in
     omega (arith, rounds_most c.before.before.before.before.before.before.before.before.args.q c.before.round.result some)
@@ -71,7 +71,7 @@ returns_2 c = tells_as _ _ _ _ tick_of (leap_unlocked c.before.before.before.bef
     by_tick c.before.before.before.before.before.before.before.before.before.before.before.before.before.before.args.q s (omega (arith, rank _ c.before.before.before.before.before.before.before.before.before.before.before.running.ensures c.before.before.before.before.before.before.before.before.before.load-thread.ensures s h.says, c.before.before.before.before.before.before.before.round.ensures.1 (omega (arith, c.before.before.before.before.before.before.if1.false))))
     (omega (arith, counts _ c.before.before.before.before.before.before.before.before.before.before.before.running.ensures c.before.before.before.before.before.before.before.before.before.load-thread.ensures c.before.before.before.before.before.counter-of.ensures s h.says, c.before.before.before.before.if2.true)))
 
-sub-least : tie.Need-overflow-sub-least
+sub-least : tie.Need-overflow_sub-least
 sub-least c = search rules
 
 least-requires : tie.Need-least-requires

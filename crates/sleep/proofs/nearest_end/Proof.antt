@@ -26,7 +26,7 @@ threads-requires c κs = c.before.requires
 loop-holds : tie.Need-loop-init invariant-loop decreases-loop
 loop-holds c = (omega (arith, c.threads.ensures), λ s e. nearest_none c.threads.result s.threads (omega (arith, c.threads.ensures, (sized c.before.before.requires e).threads)))
 
-sub-i : tie.Need-overflow-sub-i invariant-loop decreases-loop
+sub-i : tie.Need-overflow_sub-i invariant-loop decreases-loop
 sub-i c = omega arith
 
 left-of-requires : tie.Need-left-of-requires invariant-loop decreases-loop

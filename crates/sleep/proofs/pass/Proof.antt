@@ -26,7 +26,7 @@ loop-holds c = (omega arith, refl, becomes_same c.before.before.before.requires 
 pass-one-requires : tie.Need-pass-one-requires invariant-loop decreases-loop
 pass-one-requires c κs = (omega (arith, c.before.before.before.threads.ensures, c.before.before.loop.invariant.1), c.before.before.loop.invariant.2.whole)
 
-add-i : tie.Need-overflow-add-i invariant-loop decreases-loop
+add-i : tie.Need-overflow_add-i invariant-loop decreases-loop
 add-i c = omega arith
 
 loop-less : tie.Need-loop-smaller invariant-loop decreases-loop

@@ -17,7 +17,7 @@ nearest-end-requires c κs = search rules
 returns_2 : tie.Need-returns-2
 returns_2 c = λ s e. rw (lt-leb c.before.before.before.before.args.n 1 (omega (arith, c.before.before.if1.false)), eq-eqb (nearest s.threads) 0 (sym (c.before.nearest-end.ensures s e) ∙ c.if2.true))
 
-sub-least : tie.Need-overflow-sub-least
+sub-least : tie.Need-overflow_sub-least
 sub-least c = search rules
 
 least-requires : tie.Need-least-requires

@@ -41,7 +41,7 @@ load-thread-requires c κs = (omega (arith, c.before.before.before.threads.ensur
 turn-at-requires : tie.Need-turn-at-requires invariant-loop decreases-loop
 turn-at-requires c κs = search rules
 
-add-turns : tie.Need-overflow-add-turns invariant-loop decreases-loop
+add-turns : tie.Need-overflow_add-turns invariant-loop decreases-loop
 add-turns c =
     let s = said c.before.before.before.before.before.before.before.args.t.now in
     let p = c.before.before.before.before.before.before.before.args.priority in
@@ -49,7 +49,7 @@ add-turns c =
     let turned : c.turn_at.result ≡ (if in_line (ready p) (at s.threads j) then (at s.threads j).turn else 0) = rw (c.before.load-thread.ensures _ refl) at c.turn_at.ensures in
     record { fits = omega (arith, turned, c.before.before.before.before.before.threads.ensures, c.before.before.before.before.loop.invariant.0, c.before.before.before.before.loop.invariant.1, turn_most s c.before.before.before.before.before.before.before.requires.1 p j) }
 
-add-j : tie.Need-overflow-add-j invariant-loop decreases-loop
+add-j : tie.Need-overflow_add-j invariant-loop decreases-loop
 add-j c = omega arith
 
 loop-less : tie.Need-loop-smaller invariant-loop decreases-loop

@@ -8,7 +8,7 @@ use Rattle.leaps.specs.Ticks.{later, passed, ran}
 use Rattle.sleep.proofs.run_on.Statement.{statement}
 use Rattle.sleep.proofs.run_on.Tie as tie
 
-sub-set-counter : tie.Need-overflow-sub-set-counter
+sub-set-counter : tie.Need-overflow_sub-set-counter
 sub-set-counter c = search rules
 
 set-counter-requires : tie.Need-set-counter-requires

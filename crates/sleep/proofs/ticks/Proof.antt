@@ -35,7 +35,7 @@ loop-holds c = (omega arith, c.before.before.before.requires, refl, becomes_same
 leap-requires : tie.Need-leap-requires invariant-loop decreases-loop
 leap-requires c κs = (c.before.before.loop.invariant.1, c.before.loop-test.true)
 
-sub-left : tie.Need-overflow-sub-left invariant-loop decreases-loop
+sub-left : tie.Need-overflow_sub-left invariant-loop decreases-loop
 sub-left c = (leapt c.before.before.before.before.before.before.loop.invariant.1 c.before.before.before.before.before.loop-test.true c.before.before.before.leap.ensures.0 c.before.before.before.leap.ensures.1).most
 
 loop-less : tie.Need-loop-smaller invariant-loop decreases-loop

@@ -33,7 +33,7 @@ sem-ok-requires c κs = (omega (arith, c.before.before.semaphores.ensures), c.be
 returns : tie.Need-returns invariant-loop decreases-loop
 returns c s e = pass_together _ _ (λ z. absurd (clash z refl), λ h. absurd (clash (c.before.sem-ok.ensures s e ∙ below_at (board c.before.before.before.before.before.before.args.t.now).sems (sem_test _ s) h _ (omega (arith, c.before.before.before.before.semaphores.ensures, (counted _ c.before.before.before.before.before.before.requires).sems))) (not-true _ c.if1.true)))
 
-add-k : tie.Need-overflow-add-k invariant-loop decreases-loop
+add-k : tie.Need-overflow_add-k invariant-loop decreases-loop
 add-k c = omega arith
 
 loop-less : tie.Need-loop-smaller invariant-loop decreases-loop

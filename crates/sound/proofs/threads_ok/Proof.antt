@@ -58,7 +58,7 @@ returns c s e =
       passes = λ w h. absurd (clash (d.passes w (each_passes _ s h _ (omega (arith, c.before.before.before.before.before.before.before.before.before.threads.ensures.0)))) (ap is_good c.enum_told.given.1));
     }
 
-add-i : tie.Need-overflow-add-i invariant-loop decreases-loop
+add-i : tie.Need-overflow_add-i invariant-loop decreases-loop
 add-i c = omega arith
 
 loop-less : tie.Need-loop-smaller invariant-loop decreases-loop

@@ -5,7 +5,7 @@ use borrow.Author.Rules.{rules}
 use Rattle.streams.proofs.read_behind.Statement.{statement}
 use Rattle.streams.proofs.read_behind.Tie as tie
 
-sub_read : tie.Need-overflow-sub-read
+sub_read : tie.Need-overflow_sub-read
 sub_read c = search rules
 
 part-read-start : tie.Need-slice-bounds-read-start
@@ -17,7 +17,7 @@ part-read-end c = search rules
 read-requires : tie.Need-read-requires
 read-requires c κs = search rules
 
-sub-count : tie.Need-overflow-sub-count
+sub-count : tie.Need-overflow_sub-count
 sub-count c = search rules
 
 part-count-start : tie.Need-slice-bounds-count-start
@@ -35,7 +35,7 @@ slice-aggregate-say c = search rules
 say-requires : tie.Need-say-requires
 say-requires c κs = search rules
 
-add-t8 : tie.Need-overflow-add-t8
+add-t8 : tie.Need-overflow_add-t8
 add-t8 c = search rules
 
 same_length : tie.Need-same-length

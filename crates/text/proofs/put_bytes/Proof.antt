@@ -31,13 +31,13 @@ loop-holds c = (refl, omega arith, refl)
 shared-slice-read-out : tie.Need-shared-slice-read-out invariant-loop decreases-loop
 shared-slice-read-out c = search rules
 
-add-out : tie.Need-overflow-add-out invariant-loop decreases-loop
+add-out : tie.Need-overflow_add-out invariant-loop decreases-loop
 add-out c = search rules
 
 slice-write-out : tie.Need-slice-write-out invariant-loop decreases-loop
 slice-write-out c = search rules
 
-add-i : tie.Need-overflow-add-i invariant-loop decreases-loop
+add-i : tie.Need-overflow_add-i invariant-loop decreases-loop
 add-i c = search rules
 
 loop-less : tie.Need-loop-smaller invariant-loop decreases-loop
@@ -51,7 +51,7 @@ loop-again c =
     let store : set turn.out (start.args.at + turn.i) (get_or bytes turn.i 0) ≡ _ = ap (λ o. set o (start.args.at + turn.i) (get_or bytes turn.i 0)) turn.invariant.2 in
     (length-set turn.out (start.args.at + turn.i) _ ∙ turn.invariant.0, omega arith, store ∙ more start.args.out.now bytes start.args.at turn.i (omega arith))
 
-add-result : tie.Need-overflow-add-result invariant-loop decreases-loop
+add-result : tie.Need-overflow_add-result invariant-loop decreases-loop
 add-result c = search rules
 
 same_length : tie.Need-same-length invariant-loop decreases-loop

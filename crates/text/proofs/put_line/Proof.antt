@@ -20,7 +20,7 @@ room c = (room_64 c.ranges.number, room_code c.ranges.code, room_32 c.ranges.val
 put-field-requires : tie.Need-put-field-requires
 put-field-requires c κs = omega (arith, room c.before.before)
 
-cast-put-signed : tie.Need-overflow-cast-put-signed
+cast-put-signed : tie.Need-overflow_cast-put-signed
 cast-put-signed c = widens c.before.before.before.before.before.before.ranges.code
 
 put-signed-requires : tie.Need-put-signed-requires

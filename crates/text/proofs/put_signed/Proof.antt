@@ -17,16 +17,16 @@ above c = plain c.before.before.args.n c.before.before.ranges.n c.if1.false
 put_byte_requires : tie.Need-put-byte-requires
 put_byte_requires c κs = omega (arith, ap length (below c.before).text)
 
-cast-put-number : tie.Need-overflow-cast-put-number
+cast-put-number : tie.Need-overflow_cast-put-number
 cast-put-number c = (below c.before.before.before.before.before).casts
 
-add-put-number : tie.Need-overflow-add-put-number
+add-put-number : tie.Need-overflow_add-put-number
 add-put-number c = (below c.before.before.before.before.before).fits
 
 put_number_requires : tie.Need-put-number-requires
 put_number_requires c κs = omega (arith, ap length (below c.before.before.before.before.before).text)
 
-cast-put-number-2 : tie.Need-overflow-cast-put-number-2
+cast-put-number-2 : tie.Need-overflow_cast-put-number-2
 cast-put-number-2 c = (above c.before).casts
 
 put-number-requires-2 : tie.Need-put-number-requires-2

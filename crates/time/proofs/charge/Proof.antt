@@ -25,7 +25,7 @@ returns : tie.Need-returns
 unfolding charge
 returns c = becomes_as c.before.before.to-tail.ensures (λ s h. rw (← c.before.before.before.before.before.before.load-thread.ensures s h.says, le-leb (counter_of c.before.before.before.before.before.before.load-thread.result.wait) 1 (omega (arith, c.before.before.before.before.before.counter-of.ensures))))
 
-sub-set-counter : tie.Need-overflow-sub-set-counter
+sub-set-counter : tie.Need-overflow_sub-set-counter
 sub-set-counter c = search rules
 
 set-counter-requires : tie.Need-set-counter-requires

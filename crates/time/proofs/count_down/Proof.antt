@@ -47,7 +47,7 @@ returns-3 c =
     let if1 = c.before.before.before.before.before.before.before.before.if1 in
     becomes_as c.before.before.end-wait.ensures (λ s h. rw (← load-thread.ensures s h.says, ← is-waiting.ensures, not-false is-waiting.result if1.false, ← c.before.before.before.before.before.before.before.counter-of.ensures, c.before.before.before.before.before.if3.true, c.before.before.before.timed-out.ensures))
 
-sub-set-counter : tie.Need-overflow-sub-set-counter
+sub-set-counter : tie.Need-overflow_sub-set-counter
 sub-set-counter c = search rules
 
 set-counter-requires : tie.Need-set-counter-requires

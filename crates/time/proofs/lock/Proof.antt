@@ -20,7 +20,7 @@ returns : tie.Need-returns
 unfolding do_lock
 returns c = does_nothing c.before.before.before.before.requires.whole (λ s e. rw (le-leb most_lock s.lock (omega (arith, c.before.lock.ensures s e))))
 
-add-set-lock : tie.Need-overflow-add-set-lock
+add-set-lock : tie.Need-overflow_add-set-lock
 add-set-lock c = search rules
 
 set-lock-requires : tie.Need-set-lock-requires

@@ -18,7 +18,7 @@ returns : tie.Need-returns
 unfolding do_unlock
 returns c = does_nothing c.before.before.before.before.requires.whole (λ s e. rw (eq-eqb s.lock 0 (sym (c.before.lock.ensures s e) ∙ c.if1.true)))
 
-sub-set-lock : tie.Need-overflow-sub-set-lock
+sub-set-lock : tie.Need-overflow_sub-set-lock
 sub-set-lock c = search rules
 
 set-lock-requires : tie.Need-set-lock-requires

@@ -50,10 +50,10 @@ returns c =
     (omega (arith, come.ensures.0)) closed.ensures.0.0 closed.ensures.0.1 closed.ensures.1.0
     (omega (arith, closed.ensures.1.1, loop.invariant.1, c.before.before.before.before.before.before.before.before.before.before.before.before.before.before.before.requires.1))
 
-sub-bytes : tie.Need-overflow-sub-bytes invariant-loop decreases-loop
+sub-bytes : tie.Need-overflow_sub-bytes invariant-loop decreases-loop
 sub-bytes c = search rules
 
-add-bytes : tie.Need-overflow-add-bytes invariant-loop decreases-loop
+add-bytes : tie.Need-overflow_add-bytes invariant-loop decreases-loop
 add-bytes c = search rules
 
 slice-aggregate-serve : tie.Need-slice-aggregate-serve invariant-loop decreases-loop
@@ -92,7 +92,7 @@ returns_2 c =
     closed.ensures.0.0 closed.ensures.0.1 closed.ensures.1.0
     (omega (arith, closed.ensures.1.1, served.auto.1.1.1.1.0, loop.invariant.1, c.before.before.before.before.before.before.before.before.before.before.before.before.before.before.before.before.before.before.before.before.before.before.before.before.before.before.requires.1))
 
-sub-reads : tie.Need-overflow-sub-reads invariant-loop decreases-loop
+sub-reads : tie.Need-overflow_sub-reads invariant-loop decreases-loop
 sub-reads c = search rules
 
 loop-less : tie.Need-loop-smaller invariant-loop decreases-loop

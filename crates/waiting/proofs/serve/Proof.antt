@@ -26,7 +26,7 @@ loop-holds c = (omega arith, c.before.requires, refl, λ l e. becomes_same c.bef
 serve-first-requires : tie.Need-serve-first-requires invariant-loop decreases-loop
 serve-first-requires c κs = c.before.before.loop.invariant.1
 
-add-k : tie.Need-overflow-add-k invariant-loop decreases-loop
+add-k : tie.Need-overflow_add-k invariant-loop decreases-loop
 add-k c = omega arith
 
 loop-less : tie.Need-loop-smaller invariant-loop decreases-loop

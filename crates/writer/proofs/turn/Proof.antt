@@ -20,10 +20,10 @@ slice-aggregate-turn-block c = sym (length-take-le _ _ c.before.before.before.re
 turn-block-requires : tie.Need-turn-block-requires
 turn-block-requires c κs = omega (arith, c.before.before.before.before.requires.1.1, length-take-le c.before.before.before.before.args.n c.before.before.before.before.args.block.now c.before.before.before.before.requires.0)
 
-add-number : tie.Need-overflow-add-number
+add-number : tie.Need-overflow_add-number
 add-number c = omega (arith, c.before.before.before.before.before.before.before.requires.1.0, c.before.before.turn-block.ensures.inside.1, length-take-le c.before.before.before.before.before.before.before.args.n c.before.before.before.before.before.before.before.args.block.now c.before.before.before.before.before.before.before.requires.0)
 
-sub-is-too-long : tie.Need-overflow-sub-is-too-long
+sub-is-too-long : tie.Need-overflow_sub-is-too-long
 sub-is-too-long c = omega (arith, c.before.before.turn-block.ensures.inside.0, length-take-le c.before.before.before.before.before.before.before.args.n c.before.before.before.before.before.before.before.args.block.now c.before.before.before.before.before.before.before.requires.0)
 
 is-too-long-requires : tie.Need-is-too-long-requires

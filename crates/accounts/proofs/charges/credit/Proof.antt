@@ -17,13 +17,13 @@ returns c =
     let ts = (decode printer start.args.t.now).threads in
     none_credited ts start.args.ran start.args.lock start.args.far start.args.rounds c.if1.true start.args.accounts.now
 
-mul-accounts : tie.Need-overflow-mul-accounts
+mul-accounts : tie.Need-overflow_mul-accounts
 mul-accounts c = search rules
 
 slice-read-accounts : tie.Need-slice-read-accounts
 slice-read-accounts c = search rules
 
-add-accounts : tie.Need-overflow-add-accounts
+add-accounts : tie.Need-overflow_add-accounts
 add-accounts c =
     let start = c.before.before.before.before.before in
     let ts = (decode printer start.args.t.now).threads in

@@ -18,10 +18,10 @@ load-thread-requires c κs = (omega arith, printer_long c.before.before.requires
 in-rank-requires : tie.Need-in-rank-requires
 in-rank-requires c κs = search rules
 
-cast-accounts : tie.Need-overflow-cast-accounts
+cast-accounts : tie.Need-overflow_cast-accounts
 cast-accounts c = search rules
 
-mul-accounts : tie.Need-overflow-mul-accounts
+mul-accounts : tie.Need-overflow_mul-accounts
 mul-accounts c =
     let start = c.before.before.before.before.before.before in
     let th = c.before.before.before.load-thread.result in
@@ -29,13 +29,13 @@ mul-accounts c =
     let turns = turns_in start.args.priority start.args.rounds th _ (c.before.before.before.load-thread.ensures _ (said_printer _ start.requires.0.2)) m in
     record { fits = omega (arith, turns, start.requires.1) }
 
-mul-accounts-2 : tie.Need-overflow-mul-accounts-2
+mul-accounts-2 : tie.Need-overflow_mul-accounts-2
 mul-accounts-2 c = search rules
 
 slice-read-accounts : tie.Need-slice-read-accounts
 slice-read-accounts c = search rules
 
-add-accounts : tie.Need-overflow-add-accounts
+add-accounts : tie.Need-overflow_add-accounts
 add-accounts c =
     let start = c.before.before.before.before.before.before.before in
     let th = c.before.before.before.before.load-thread.result in

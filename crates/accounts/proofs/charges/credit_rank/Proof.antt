@@ -31,7 +31,7 @@ credit-member-requires c κs =
     let inv = c.before.before.loop.invariant in
     ((c.before.loop-test.true, inv.1.long ∙ start.requires.0.0, start.requires.0.1), rw (inv.1.rest c.before.before.loop.i (omega arith)) (start.requires.1 c.before.before.loop.i))
 
-add-i : tie.Need-overflow-add-i invariant-loop decreases-loop
+add-i : tie.Need-overflow_add-i invariant-loop decreases-loop
 add-i c = search rules
 
 loop-less : tie.Need-loop-smaller invariant-loop decreases-loop

@@ -65,7 +65,7 @@ enter-leap-requires c κs =
       ),
     )
 
-sub-left : tie.Need-overflow-sub-left invariant-loop decreases-loop
+sub-left : tie.Need-overflow_sub-left invariant-loop decreases-loop
 sub-left c = (one_leap c.before.before.before.before.before.before.before.before.loop.invariant.1 c.before.before.before.before.before.before.before.loop-test.true c.before.before.before.before.enter-leap.ensures.0 c.before.before.before.before.enter-leap.ensures.1.0).most
 
 loop-less : tie.Need-loop-smaller invariant-loop decreases-loop

@@ -15,7 +15,7 @@ enum-told-3 c = search rules
 enum-known-w : tie.Need-enum-known-w
 enum-known-w c = search rules
 
-cast-send-ok : tie.Need-overflow-cast-send-ok
+cast-send-ok : tie.Need-overflow_cast-send-ok
 cast-send-ok c = search rules
 
 send-ok-requires : tie.Need-send-ok-requires
@@ -24,7 +24,7 @@ send-ok-requires c κs = search rules
 enum-known-w-2 : tie.Need-enum-known-w-2
 enum-known-w-2 c = search rules
 
-cast-pend-ok : tie.Need-overflow-cast-pend-ok
+cast-pend-ok : tie.Need-overflow_cast-pend-ok
 cast-pend-ok c = search rules
 
 pend-ok-requires : tie.Need-pend-ok-requires

@@ -23,7 +23,7 @@ loop-holds c = (omega arith, c.before.requires, refl)
 goes-on-requires : tie.Need-goes-on-requires invariant-loop decreases-loop
 goes-on-requires c κs = c.loop.invariant.1
 
-add-i : tie.Need-overflow-add-i invariant-loop decreases-loop
+add-i : tie.Need-overflow_add-i invariant-loop decreases-loop
 add-i c = omega (arith, c.before.goes_on.ensures.0 c.if1.true)
 
 loop-less : tie.Need-loop-smaller invariant-loop decreases-loop

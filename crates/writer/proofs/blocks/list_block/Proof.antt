@@ -18,13 +18,13 @@ decreases-loop records out₀ done₀ at₀ next₀ out done at next = length re
 loop-holds : tie.Need-loop-init invariant-loop decreases-loop
 loop-holds c = (refl, none_yet ToListing c.before.before.args.records.now c.before.before.args.out.now)
 
-sub-loop : tie.Need-overflow-sub-loop invariant-loop decreases-loop
+sub-loop : tie.Need-overflow_sub-loop invariant-loop decreases-loop
 sub-loop c = c.loop.invariant.1.inside
 
-add-list-record : tie.Need-overflow-add-list-record invariant-loop decreases-loop
+add-list-record : tie.Need-overflow_add-list-record invariant-loop decreases-loop
 add-list-record c = omega (arith, c.before.loop.invariant.1.inside, c.loop-test.true)
 
-sub-list-record : tie.Need-overflow-sub-list-record invariant-loop decreases-loop
+sub-list-record : tie.Need-overflow_sub-list-record invariant-loop decreases-loop
 sub-list-record c = omega arith
 
 part-list-record-start : tie.Need-slice-bounds-list-record-start invariant-loop decreases-loop
@@ -42,10 +42,10 @@ same_length c = c.before.before.before.list-record.auto.1.0 ∙ c.before.before.
 returns : tie.Need-returns invariant-loop decreases-loop
 returns c = record_bad c.before.before.before.before.before.before.before.loop.invariant.1 (omega (arith, c.before.before.before.before.before.before.before.loop.invariant.1.inside, c.before.before.before.before.before.before.loop-test.true)) c.before.before.before.list-record.ensures.0 c.before.before.before.list-record.ensures.1 c.if1.true
 
-add_done : tie.Need-overflow-add-done invariant-loop decreases-loop
+add_done : tie.Need-overflow_add-done invariant-loop decreases-loop
 add_done c = omega (arith, c.before.before.before.before.before.before.before.loop.invariant.1.fewer, c.before.before.before.before.before.before.before.loop.invariant.1.inside, c.before.before.before.before.before.before.loop-test.true, c.before.before.before.before.before.before.before.before.before.before.requires)
 
-add_at : tie.Need-overflow-add-at invariant-loop decreases-loop
+add_at : tie.Need-overflow_add-at invariant-loop decreases-loop
 add_at c = omega (arith, c.before.before.before.before.before.before.before.loop.invariant.1.inside, c.before.before.before.before.before.before.loop-test.true, c.before.before.before.before.before.before.before.before.before.before.requires)
 
 loop-less : tie.Need-loop-smaller invariant-loop decreases-loop

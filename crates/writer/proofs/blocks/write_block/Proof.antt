@@ -25,7 +25,7 @@ line-end-requires c κs = omega arith
 loop-holds : tie.Need-loop-init invariant-loop decreases-loop
 loop-holds c = (c.line-end.ensures.0, c.line-end.ensures.1.0, c.line-end.ensures.1.1, refl, none_yet ToRecords c.before.before.before.args.text.now c.before.before.before.args.out.now)
 
-sub-write-line : tie.Need-overflow-sub-write-line invariant-loop decreases-loop
+sub-write-line : tie.Need-overflow_sub-write-line invariant-loop decreases-loop
 sub-write-line c = c.before.loop.invariant.1
 
 part-write-line-start : tie.Need-slice-bounds-write-line-start invariant-loop decreases-loop
@@ -43,13 +43,13 @@ same_length c = c.before.before.before.write-line.auto.1.0 ∙ c.before.before.b
 returns : tie.Need-returns invariant-loop decreases-loop
 returns c = line_bad c.before.before.before.before.before.before.before.loop.invariant.4 c.before.before.before.before.before.before.before.loop.end c.before.before.before.before.before.before.before.loop.invariant.0 c.before.before.before.before.before.before.loop-test.true c.before.before.before.write-line.ensures.0 c.before.before.before.write-line.ensures.1 (not-true c.before.before.before.write-line.result c.if1.true)
 
-add_done : tie.Need-overflow-add-done invariant-loop decreases-loop
+add_done : tie.Need-overflow_add-done invariant-loop decreases-loop
 add_done c = omega (arith, c.before.before.before.before.before.before.before.loop.invariant.4.fewer, c.before.before.before.before.before.before.before.loop.invariant.1, c.before.before.before.before.before.before.before.loop.invariant.2, c.before.before.before.before.before.before.before.before.before.before.before.requires)
 
-add_at : tie.Need-overflow-add-at invariant-loop decreases-loop
+add_at : tie.Need-overflow_add-at invariant-loop decreases-loop
 add_at c = search rules
 
-add-next : tie.Need-overflow-add-next invariant-loop decreases-loop
+add-next : tie.Need-overflow_add-next invariant-loop decreases-loop
 add-next c = omega (arith, c.before.before.before.before.before.before.before.loop.invariant.4.room, c.before.before.before.before.before.before.before.loop.invariant.1, c.before.before.before.before.before.before.before.loop.invariant.2, c.before.before.before.before.before.before.before.before.before.before.before.requires)
 
 line-end-requires-2 : tie.Need-line-end-requires-2 invariant-loop decreases-loop

@@ -17,7 +17,7 @@ space-at-requires c κs = search rules
 returns_2 : tie.Need-returns-2
 returns_2 c = no_space c.before.before.before.before.args.used c.before.space-at.result c.before.before.before.before.args.most c.before.before.before.before.args.line.now c.before.before.before.before.args.at (not-false c.before.before.before.before.args.used c.before.before.if1.false) c.before.before.before.before.requires.0 c.before.space-at.ensures.1 (not-true c.before.space-at.result c.if2.true)
 
-add-number-at : tie.Need-overflow-add-number-at
+add-number-at : tie.Need-overflow_add-number-at
 add-number-at c = search rules
 
 number-at-requires : tie.Need-number-at-requires

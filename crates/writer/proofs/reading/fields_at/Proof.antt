@@ -102,16 +102,16 @@ returns-5 c = no_parcel c.before.before.before.before.before.before.before.befor
 returns-6 : tie.Need-returns-6
 returns-6 c = no_end c.before.before.before.before.before.before.before.before.before.before.before.before.before.before.before.before.before.before.before.before.before.before.before.before.args.operation c.before.before.before.before.before.before.before.before.before.before.before.before.before.before.before.before.before.before.before.before.before.before.before.before.args.line.now c.before.before.before.before.before.before.before.before.before.before.before.before.before.before.before.before.before.before.before.before.before.before.before.before.args.at (known c.before.before.before.before.before.before.before.before.before.before.before.before.before.before.before.before.before.before.before.before.before) (object c.before.before.before.before.before.before.before.before.before.before.before.before.before.before.before.before) (priority c.before.before.before.before.before.before.before.before.before.before.before) (number c.before.before.before.before.before.before) (parcel c.before) c.if2.true
 
-cast-object : tie.Need-overflow-cast-object
+cast-object : tie.Need-overflow_cast-object
 cast-object c = omega (arith, (object c.before.before.before.before.before.before.before.before.before.before.before.before.before.before.before.before).fits)
 
-cast-priority : tie.Need-overflow-cast-priority
+cast-priority : tie.Need-overflow_cast-priority
 cast-priority c = omega (arith, (priority c.before.before.before.before.before.before.before.before.before.before.before).fits)
 
-cast-number : tie.Need-overflow-cast-number
+cast-number : tie.Need-overflow_cast-number
 cast-number c = omega (arith, (number c.before.before.before.before.before.before).fits)
 
-cast-parcel : tie.Need-overflow-cast-parcel
+cast-parcel : tie.Need-overflow_cast-parcel
 cast-parcel c = omega (arith, (parcel c.before).fits)
 
 returns-7 : tie.Need-returns-7

@@ -35,7 +35,7 @@ shared-slice-read-with-digit c = c.before.before.digit-at2.ensures.1 c.before.if
 with-digit-requires : tie.Need-with-digit-requires invariant-loop decreases-loop
 with-digit-requires c κs = (c.before.before.before.loop.invariant.0, sym (digit_there c.before.before.before.before.before.before.before.args.line.now c.before.before.before.loop.i (c.before.before.digit-at2.ensures.1 c.before.if2.true)) ∙ sym c.before.before.digit-at2.ensures.0 ∙ c.before.if2.true)
 
-add-i : tie.Need-overflow-add-i invariant-loop decreases-loop
+add-i : tie.Need-overflow_add-i invariant-loop decreases-loop
 add-i c = search rules
 
 loop-less : tie.Need-loop-smaller invariant-loop decreases-loop

@@ -25,7 +25,7 @@ returns_2 c = not_a_number c.before.before.before.before.before.args.line.now c.
 returns-3 : tie.Need-returns-3
 returns-3 c = large_operation c.before.before.before.before.before.before.before.args.line.now c.before.before.n.given.0.0 c.before.before.n.given.0.1.0 c.before.before.before.before.before.if1.false c.if2.true (sym c.before.before.n.given.1 ∙ c.before.before.before.before.number_at.ensures)
 
-cast-fields-at : tie.Need-overflow-cast-fields-at
+cast-fields-at : tie.Need-overflow_cast-fields-at
 cast-fields-at c = search rules
 
 fields-at-requires : tie.Need-fields-at-requires

@@ -5,16 +5,16 @@ use borrow.Author.Rules.{rules}
 use Rattle.writer.proofs.reading.with_digit.Statement.{statement}
 use Rattle.writer.proofs.reading.with_digit.Tie as tie
 
-mul-m : tie.Need-overflow-mul-m
+mul-m : tie.Need-overflow_mul-m
 mul-m c = search rules
 
-sub-m : tie.Need-overflow-sub-m
+sub-m : tie.Need-overflow_sub-m
 sub-m c = omega (arith, digit_range c.args.c c.requires.1)
 
-cast-m : tie.Need-overflow-cast-m
+cast-m : tie.Need-overflow_cast-m
 cast-m c = search rules
 
-add-m : tie.Need-overflow-add-m
+add-m : tie.Need-overflow_add-m
 add-m c = search rules
 
 returns : tie.Need-returns
