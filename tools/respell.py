@@ -60,6 +60,10 @@ def table(root):
     for name in MET:
         if name in declared and name in made:
             rows[name] = name + "_lem"
+    for old in [o for o in rows if "◌" in o]:
+        for part in filter(None, old.split("◌")):
+            if snake(part) != part:
+                rows[part] = snake(part)
     return rows
 
 

@@ -72,7 +72,7 @@ module _ (t₀ input : List ℕ) (first : ℕ) (out₀ : List ℕ) where
           count = omega (arith, p.count);
           room = omega (arith, p.room);
           table = p.table ∙ ap (λ rs. table_after printer t (map cleanly rs)) (behind l e) ∙ ap (λ x. table_after printer x (map cleanly (rest input (at + request_length) l))) (sym et);
-          lines = p.lines followed-by q;
+          lines = p.lines followed_by q;
           printed =
               p.printed
               ∙ ap (λ rs. p.text ++ trace_text (trace_from printer number t rs)) (behind l e)

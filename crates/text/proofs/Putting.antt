@@ -25,7 +25,7 @@ pub ◌followed_by◌ : {entry mid exit t u : List ℕ} {at end next : ℕ}
 -- the same where the second text is two: a number and the byte after it
 pub with_field : {entry mid exit t : List ℕ} {at end next : ℕ} (u v : List ℕ)
     → Puts entry at t mid end → Puts mid end (u ++ v) exit next → Puts entry at (t ++ u ++ v) exit next
-with_field {t = t} u v p q = rw (append_assoc t u v) (p followed-by q)
+with_field {t = t} u v p q = rw (append_assoc t u v) (p followed_by q)
 
 -- the promise determines the buffer and the answer
 pub puts_tight : {entry exit exit' t : List ℕ} {at next next' : ℕ}

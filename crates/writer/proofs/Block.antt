@@ -84,7 +84,7 @@ module _ {w : Way} {input before : List ℕ} {n at next : ℕ} {after : List ℕ
     made = goes_on_by (piece ∷ []) ∙ rw e refl;
     many = length-append s.done (x ∷ []) ∙ omega (arith, s.many);
     place = ap length (input_append w s.pieces (piece ∷ [])) ∙ length-append (input_of w s.pieces) (input_of w (piece ∷ [])) ∙ omega (arith, s.place, t.far);
-    puts = rw (bytes_append w s.done (x ∷ [])) (s.puts followed-by p);
+    puts = rw (bytes_append w s.done (x ∷ [])) (s.puts followed_by p);
     inside = t.within;
     fewer = omega (arith, s.fewer);
     room = room;

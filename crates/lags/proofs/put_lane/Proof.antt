@@ -80,7 +80,7 @@ returns_2 c =
     let same = to_z-of_z w64 c.before.before.before.before.before.before.before.before.before.before.before.before.before.before.before.before.before.lag-of.result (record { sfits = c.before.before.before.before.before.before.before.before.before.before.before.before.before.before.before.before.before.lag-of.type-inv }) in
     let digits : length (signed (read c.before.before.before.before.before.before.before.before.before.before.before.before.before.before.before.before.before.lag-of.result)) ≤ 19 = rw same c.before.before.before.before.before.before.before.before.before.before.before.before.before.before.before.before.before.lag-of.ensures.1 in
     let own = rw (same, c.before.before.before.before.before.before.before.before.before.before.before.before.before.before.before.before.before.lag-of.ensures.0) at c.before.before.before.before.before.before.put-signed.ensures in (
-      rw used (charged followed-by own followed-by c.before.before.put_byte.ensures),
+      rw used (charged followed_by own followed_by c.before.before.put_byte.ensures),
       omega (arith, room start, c.before.before.before.before.before.before.before.before.before.before.before.before.before.before.before.put-field.ensures.1, c.before.before.before.before.before.before.before.before.before.before.put-field2.ensures.1, digits, c.before.before.before.before.before.before.put-signed.ensures.place, c.before.before.put_byte.ensures.place),
     )
 

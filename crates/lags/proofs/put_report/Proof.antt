@@ -56,7 +56,7 @@ loop-again c =
       omega (arith, c.before.before.before.before.loop-test.true),
       omega (arith, inv.1, put.ensures.1),
       put.auto.1.1.1.0 ∙ inv.2,
-      rw (lines_turn s.threads i more f s) (inv.3 followed-by put.ensures.0),
+      rw (lines_turn s.threads i more f s) (inv.3 followed_by put.ensures.0),
     )
 
 same_length : tie.Need-same-length invariant-loop decreases-loop
@@ -69,7 +69,7 @@ returns c =
     let f = of start.args.accounts.now in
     let inv = c.before.loop.invariant in
     let all : take c.before.loop.i s.threads ≡ s.threads = take_all c.before.loop.i s.threads (omega (arith, c.loop-test.false, (on_decode printer start.args.table.now).threads)) in
-    (c.before.before.before.before.put-stopped.ensures.0 followed-by (rw all at inv.3), omega (arith, inv.0, inv.1))
+    (c.before.before.before.before.put-stopped.ensures.0 followed_by (rw all at inv.3), omega (arith, inv.0, inv.1))
 
 pub put_report_spec : {M : Type 1} → statement M
 put_report_spec =

@@ -69,7 +69,7 @@ module _ (t : ℕ) where
       let start = c.before.before.before.before.before.before.before.before.before.before in
       let large = c.before.before.before.before.before.before.before.before.if1.false in
       rw (decimal_more start.args.n large)
-      (c.before.before.before.before.before.before.put-number.ensures followed-by c.before.before.put-byte2.ensures)
+      (c.before.before.before.before.before.before.put-number.ensures followed_by c.before.before.put-byte2.ensures)
 
 pub +put_number_spec : {M : Type 1} → statement M
 +put_number_spec =

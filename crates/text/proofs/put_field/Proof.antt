@@ -14,7 +14,7 @@ same_length : tie.Need-same-length
 same_length c = search rules
 
 returns : tie.Need-returns
-returns c = (c.before.before.before.before.before.before.put-number.ensures followed-by c.before.before.put_byte.ensures, search rules)
+returns c = (c.before.before.before.before.before.before.put-number.ensures followed_by c.before.before.put_byte.ensures, search rules)
 
 pub put_field_spec : {M : Type 1} → statement M
 put_field_spec = tie.close (tie.spec put_number_requires put_byte_requires same_length returns)

@@ -53,8 +53,8 @@ returns c =
     let start = number.before.before.before in
     let head =
     number.put-field.ensures.0
-    followed-by (rw (wide_same start.ranges.code) at code.put-signed.ensures)
-    followed-by space.put_byte.ensures in
+    followed_by (rw (wide_same start.ranges.code) at code.put-signed.ensures)
+    followed_by space.put_byte.ensures in
     let body = with_field (decimal start.args.value) (32 ∷ []) head value.put-field2.ensures.0 in
     (with_field (decimal start.args.running) (10 ∷ []) body c.before.before.put-field3.ensures.0, omega (arith, room start))
 

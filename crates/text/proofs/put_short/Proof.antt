@@ -19,7 +19,7 @@ same_length : tie.Need-same-length
 same_length c = search rules
 
 returns : tie.Need-returns
-returns c = (c.before.before.before.before.before.before.put-bytes.ensures followed-by c.before.before.put-field.ensures.0, omega (arith, c.before.before.before.before.before.before.put-bytes.ensures.place, c.before.before.put-field.ensures.1, room_64 c.before.before.before.before.before.before.before.before.before.before.ranges.n))
+returns c = (c.before.before.before.before.before.before.put-bytes.ensures followed_by c.before.before.put-field.ensures.0, omega (arith, c.before.before.before.before.before.before.put-bytes.ensures.place, c.before.before.put-field.ensures.1, room_64 c.before.before.before.before.before.before.before.before.before.before.ranges.n))
 
 pub put_short_spec : {M : Type 1} → statement M
 put_short_spec = tie.close (tie.spec slice-aggregate-put-bytes put-bytes-requires put-field-requires same_length returns)

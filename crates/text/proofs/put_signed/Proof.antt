@@ -38,7 +38,7 @@ same_length c = search rules
 returns : tie.Need-returns
 returns c =
     let sign = c.before.before.before.before.before.before in
-    rw (below sign.before.before).text (sign.put_byte.ensures followed-by c.before.before.put-number.ensures)
+    rw (below sign.before.before).text (sign.put_byte.ensures followed_by c.before.before.put-number.ensures)
 
 same_length_2 : tie.Need-same-length-2
 same_length_2 c = search rules

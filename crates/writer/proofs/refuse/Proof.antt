@@ -21,7 +21,7 @@ same_length : tie.Need-same-length
 same_length c = search rules
 
 returns_2 : tie.Need-returns-2
-returns_2 c = rw (not-false c.before.before.before.before.before.before.before.before.before.before.args.bad c.before.before.before.before.before.before.before.before.if1.false) (c.before.before.before.before.before.before.put-what.ensures.0 followed-by c.before.before.put-field.ensures.0, omega (arith, c.before.before.before.before.before.before.put-what.ensures.1, c.before.before.put-field.ensures.1, room_64 c.before.before.before.before.before.before.before.before.before.before.ranges.number))
+returns_2 c = rw (not-false c.before.before.before.before.before.before.before.before.before.before.args.bad c.before.before.before.before.before.before.before.before.if1.false) (c.before.before.before.before.before.before.put-what.ensures.0 followed_by c.before.before.put-field.ensures.0, omega (arith, c.before.before.before.before.before.before.put-what.ensures.1, c.before.before.put-field.ensures.1, room_64 c.before.before.before.before.before.before.before.before.before.before.ranges.number))
 
 pub refuse_spec : {M : Type 1} → statement M
 refuse_spec =

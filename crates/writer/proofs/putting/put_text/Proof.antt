@@ -45,11 +45,11 @@ returns : tie.Need-returns
 unfolding taken_text
 returns c = (
   c.before.before.before.before.before.before.before.before.before.before.before.before.before.before.before.before.before.before.before.before.before.before.before.before.before.before.put-number.ensures
-      followed-by (rw c.before.before.before.before.before.before.before.before.before.before.before.before.before.before.before.before.before.before.before.before.before.before.takes.ensures at c.before.before.before.before.before.before.before.before.before.before.before.before.before.before.before.before.before.before.before.before.before.put-used.ensures.0)
-      followed-by (rw c.before.before.before.before.before.before.before.before.before.before.before.before.before.before.before.before.before.takes2.ensures at c.before.before.before.before.before.before.before.before.before.before.before.before.before.before.before.before.put-used2.ensures.0)
-      followed-by (rw c.before.before.before.before.before.before.before.before.before.before.before.before.takes3.ensures at c.before.before.before.before.before.before.before.before.before.before.before.put-used3.ensures.0)
-      followed-by (rw c.before.before.before.before.before.before.before.takes4.ensures at c.before.before.before.before.before.before.put-used4.ensures.0)
-      followed-by c.before.before.put_byte.ensures,
+      followed_by (rw c.before.before.before.before.before.before.before.before.before.before.before.before.before.before.before.before.before.before.before.before.before.before.takes.ensures at c.before.before.before.before.before.before.before.before.before.before.before.before.before.before.before.before.before.before.before.before.before.put-used.ensures.0)
+      followed_by (rw c.before.before.before.before.before.before.before.before.before.before.before.before.before.before.before.before.before.takes2.ensures at c.before.before.before.before.before.before.before.before.before.before.before.before.before.before.before.before.put-used2.ensures.0)
+      followed_by (rw c.before.before.before.before.before.before.before.before.before.before.before.before.takes3.ensures at c.before.before.before.before.before.before.before.before.before.before.before.put-used3.ensures.0)
+      followed_by (rw c.before.before.before.before.before.before.before.takes4.ensures at c.before.before.before.before.before.before.put-used4.ensures.0)
+      followed_by c.before.before.put_byte.ensures,
   omega (arith, room_8 c.before.before.before.before.before.before.before.before.before.before.before.before.before.before.before.before.before.before.before.before.before.before.before.before.before.before.before.before.before.ranges.operation, c.before.before.before.before.before.before.before.before.before.before.before.before.before.before.before.before.before.before.before.before.before.before.before.before.before.before.put-number.ensures.place, c.before.before.before.before.before.before.before.before.before.before.before.before.before.before.before.before.before.before.before.before.before.put-used.ensures.1, c.before.before.before.before.before.before.before.before.before.before.before.before.before.before.before.before.put-used2.ensures.1, c.before.before.before.before.before.before.before.before.before.before.before.put-used3.ensures.1, c.before.before.before.before.before.before.put-used4.ensures.1, c.before.before.put_byte.ensures.place),
 )
 

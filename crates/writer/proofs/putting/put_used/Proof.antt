@@ -21,7 +21,7 @@ same_length : tie.Need-same-length
 same_length c = search rules
 
 returns_2 : tie.Need-returns-2
-returns_2 c = rw (not-false c.before.before.before.before.before.before.before.before.before.before.args.used c.before.before.before.before.before.before.before.before.if1.false) (c.before.before.before.before.before.before.put_byte.ensures followed-by c.before.before.put-number.ensures, omega (arith, room_32 c.before.before.before.before.before.before.before.before.before.before.ranges.n))
+returns_2 c = rw (not-false c.before.before.before.before.before.before.before.before.before.before.args.used c.before.before.before.before.before.before.before.before.if1.false) (c.before.before.before.before.before.before.put_byte.ensures followed_by c.before.before.put-number.ensures, omega (arith, room_32 c.before.before.before.before.before.before.before.before.before.before.ranges.n))
 
 pub put_used_spec : {M : Type 1} → statement M
 put_used_spec =

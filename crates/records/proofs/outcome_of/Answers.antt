@@ -1,0 +1,16 @@
+-- `records::outcome_of` meets its contract: each arm is the test that the definition makes there. Assumes nothing.
+use borrow.Author.Tests.{ne_eqb}
+use Rattle.rules.specs.Table.{outcome_of}
+use Rattle.records.proofs.outcome_of.Goals as goal
+
+pub returns-in-0 : goal.returns-in-0
+unfolding outcome_of
+returns-in-0 c = rw c.in-0.is
+
+pub returns-in-1 : goal.returns-in-1
+unfolding outcome_of
+returns-in-1 c = rw c.in-1.is
+
+pub returns-in_default : goal.returns-in_default
+unfolding outcome_of
+returns-in_default c = simp (ne_eqb _ _ c.in_default.in_default-own.rest.1, ne_eqb _ _ c.in_default.in_default-own.rest.0.1)
