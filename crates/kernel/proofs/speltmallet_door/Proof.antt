@@ -55,7 +55,7 @@ returns : tie.Need-returns
 unfolding door
 returns c =
     let no = sym c.before.before.can-serve.ensures ∙ not-true _ c.before.if1.true in
-    let k = c.code in (rw no (to_z-of_z w32 k.result (record { sfits = k.type-inv }) ∙ k.ensures), (rw no, rw no))
+    let k = c.code in (rw no (to_z-of_z w32 k.result (record { sfits = k.type_inv }) ∙ k.ensures), (rw no, rw no))
 
 decode-requires : tie.Need-decode-requires
 decode-requires c κs = search rules
@@ -88,7 +88,7 @@ returns_2 c =
     let can = sym can-serve.ensures ∙ not-false _ if1.false in
     let bad = sym c.before.before.before.before.before.before.before.decode.ensures ∙ c.before.before.before.before.before.enum_told.given.1 in
     let k = c.code2 in (
-      rw (can, bad) (to_z-of_z w32 k.result (record { sfits = k.type-inv }) ∙ k.ensures),
+      rw (can, bad) (to_z-of_z w32 k.result (record { sfits = k.type_inv }) ∙ k.ensures),
       (rw (can, bad), rw (can, bad) c.before.before.before.put-answer.ensures),
     )
 
@@ -125,7 +125,7 @@ returns-3 c =
     let asked = sym decode.ensures ∙ told.given.1 in
     let d = served _ _ (servable start.args.table.now start.args.answer.now can-serve.ensures if1.false).1 c.before.before.before.before.before.before.before.step.ensures in
     let k = c.code3 in (
-      rw (can, asked) (to_z-of_z w32 k.result (record { sfits = k.type-inv }) ∙ k.ensures ∙ ap (λ x. x.code) d),
+      rw (can, asked) (to_z-of_z w32 k.result (record { sfits = k.type_inv }) ∙ k.ensures ∙ ap (λ x. x.code) d),
       (rw (can, asked) (ap (λ x. x.table) d), rw (can, asked) (c.before.before.before.put-answer2.ensures ∙ ap (λ x. x.area) d)),
     )
 
