@@ -10,7 +10,7 @@ use native.Mathlib.Decide.{ℕ_discrete}
 use lib.ListN.{length}
 use Rattle.rules.specs.Basic.{if◌then◌else◌}
 use Rattle.rules.specs.State.{State, at, edit, counter_of, with_counter_of, with_place, with_counter}
-use Rattle.rules.specs.Lines.{line, in_line, ready, line_length, move_up, filled, move}
+use Rattle.rules.specs.Lines.{line, in_line, ready, line_length, move_up, move}
 use Rattle.rules.specs.Sound.{Sound, SoundThread}
 use Rattle.rules.specs.declared.Thread.{Thread}
 use Rattle.rules.specs.declared.Wait.{Wait}
