@@ -12,6 +12,7 @@ ghost use Rattle.writer.specs.Places.{part_room, refusal_room};
 ghost use Rattle.exchange.specs.Going.{block_length, Ended};
 
 use listing::Way;
+use streams::Streams;
 
 // A block holds 1,024 records, so that a file's reads leave nothing over.
 pub const BLOCK: usize = 1024 * rules::REQUEST;
@@ -31,6 +32,7 @@ pub struct Done {
 
 // No more is read: the refusal stands ready, if there is one, and is said unless something failed.
 fn close(
+    stdio: Streams,
     way: Way,
     bytes: u64,
     number: u64,
@@ -46,7 +48,7 @@ fn close(
 {
     let next = writer::refuse(way, number, bad, out);
     if said {
-        streams::say_front(out, next);
+        streams::say_front(stdio, out, next);
     }
     Done {
         bytes,
@@ -57,7 +59,14 @@ fn close(
 }
 
 // The whole input is turned, part by part, where its first line or record has number `first`. A failure is said on standard error and ends it.
-fn run_from(name: &[u8], way: Way, first: u64, block: &mut [u8], out: &mut [u8]) -> Done
+fn run_from(
+    stdio: Streams,
+    name: &[u8],
+    way: Way,
+    first: u64,
+    block: &mut [u8],
+    out: &mut [u8],
+) -> Done
     requires first_bound { first < 2 ^ 61 }
     requires block_len { length block.old ≡ block_length }
     requires out_len { length out.old ≡ part_room block_length }
@@ -68,30 +77,30 @@ fn run_from(name: &[u8], way: Way, first: u64, block: &mut [u8], out: &mut [u8])
     let mut held: usize = 0;
     let mut reads = streams::READS;
     while 0 < reads {
-        let come = streams::read_behind(name, block, held);
+        let come = streams::read_behind(stdio, name, block, held);
         let n = come.n;
         if n == held {
-            return close(way, bytes, number, held, 0 < held, !come.failed, out);
+            return close(stdio, way, bytes, number, held, 0 < held, !come.failed, out);
         }
         bytes += (n - held) as u64;
         let turned = writer::turn(way, number, block, n, out);
         number = turned.number;
         held = turned.held;
-        let written = streams::write_front(name, out, turned.next);
+        let written = streams::write_front(stdio, name, out, turned.next);
         if turned.stopped | !written {
             let bad = turned.stopped | (0 < held);
-            return close(way, bytes, number, held, bad, written, out);
+            return close(stdio, way, bytes, number, held, bad, written, out);
         }
         reads -= 1;
     }
-    close(way, bytes, number, held, 0 < held, false, out)
+    close(stdio, way, bytes, number, held, 0 < held, false, out)
 }
 
 // The whole input is turned for the program of that name.
-pub fn run(name: &[u8], way: Way, block: &mut [u8], out: &mut [u8]) -> Done
+pub fn run(stdio: Streams, name: &[u8], way: Way, block: &mut [u8], out: &mut [u8]) -> Done
     requires block_len { length block.old ≡ block_length }
     requires out_len { length out.old ≡ part_room block_length }
     ensures { Ended way 0 result.bytes result.number (take result.held block.new) (take result.next out.new) }
 {
-    run_from(name, way, 0, block, out)
+    run_from(stdio, name, way, 0, block, out)
 }

@@ -3,8 +3,14 @@
 
 use listing::Way;
 
-fn main() {
+fn main(rt: HostRuntime) {
     let mut block = [0u8; exchange::BLOCK];
     let mut out = [0u8; exchange::OUT];
-    exchange::run(b"list", Way::ToListing, &mut block, &mut out);
+    exchange::run(
+        streams::of(&rt),
+        b"list",
+        Way::ToListing,
+        &mut block,
+        &mut out,
+    );
 }

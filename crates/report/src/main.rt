@@ -14,6 +14,7 @@ ghost use Rattle.lags.specs.Room.{SaysSound, report_room};
 ghost use Rattle.report.specs.Going.{block_length, Ended};
 
 use rules::THREADS;
+use streams::Streams;
 
 // A block holds 1,024 records, so that a file's reads leave nothing over.
 const BLOCK: usize = 1024 * rules::REQUEST;
@@ -33,6 +34,7 @@ struct Reported {
 
 // No more is read: the report stands ready, and is written unless a read failed.
 fn close(
+    stdio: Streams,
     name: &[u8],
     table: &[u8],
     accounts: &[u64],
@@ -52,7 +54,7 @@ fn close(
     let stopped = rules::REQUEST <= held;
     let next = lags::put_report(table, accounts, stopped, out);
     if ended {
-        streams::write_front(name, out, next);
+        streams::write_front(stdio, name, out, next);
     }
     Reported {
         bytes,
@@ -64,6 +66,7 @@ fn close(
 
 // The whole input is replayed, part by part, where `first` records went before. A failure is said on standard error and ends it.
 fn run(
+    stdio: Streams,
     name: &[u8],
     table: &mut [u8],
     accounts: &mut [u64],
@@ -81,10 +84,11 @@ fn run(
     let mut held: usize = 0;
     let mut reads = streams::READS;
     while 0 < reads {
-        let come = streams::read_behind(name, block, held);
+        let come = streams::read_behind(stdio, name, block, held);
         let n = come.n;
         if n == held {
             return close(
+                stdio,
                 name,
                 table,
                 accounts,
@@ -100,19 +104,22 @@ fn run(
         number = stood.number;
         held = stood.held;
         if rules::REQUEST <= held {
-            return close(name, table, accounts, bytes, number, held, true, out);
+            return close(stdio, name, table, accounts, bytes, number, held, true, out);
         }
         reads -= 1;
     }
-    close(name, table, accounts, bytes, number, held, false, out)
+    close(
+        stdio, name, table, accounts, bytes, number, held, false, out,
+    )
 }
 
-fn main() {
+fn main(rt: HostRuntime) {
     let mut table = replay::fresh();
     let mut accounts = [0u64; THREADS];
     let mut block = [0u8; BLOCK];
     let mut out = [0u8; OUT];
     run(
+        streams::of(&rt),
         b"report",
         &mut table,
         &mut accounts,

@@ -4,8 +4,18 @@
 
 ghost use Rattle.std.specs.Prelude.{◌≤◌, ◌≡◌, length, take};
 
+use std::io::{Print, Read, Stderr, Stdin, Stdout};
+
 // How many reads a program makes at the most: more than any machine lives for.
 pub const READS: u64 = 1125899906842624;
+
+// A program's three streams, as its `main` is given them.
+#[derive(Clone, Copy)]
+pub struct Streams {
+    pub input: Stdin,
+    pub output: Stdout,
+    pub errors: Stderr,
+}
 
 // What a read leaves: so many bytes are at hand, and whether it failed.
 #[derive(Clone, Copy)]
@@ -14,43 +24,55 @@ pub struct Come {
     pub failed: bool,
 }
 
+// The streams of the process.
+pub fn of(rt: &HostRuntime) -> Streams {
+    Streams {
+        input: rt.stdin(),
+        output: rt.stdout(),
+        errors: rt.stderr(),
+    }
+}
+
 // A program's name and what failed, on standard error.
-fn say(name: &[u8], what: &[u8]) {
-    io::write_all(libc::STDERR_FILENO, name);
-    io::write_all(libc::STDERR_FILENO, what);
+fn say(stdio: Streams, name: &[u8], what: &[u8]) {
+    let _ = stdio.errors.write_all(name);
+    let _ = stdio.errors.write_all(what);
 }
 
 // One read of standard input, behind the bytes of the block that are held: these stay.
-pub fn read_behind(name: &[u8], block: &mut [u8], held: usize) -> Come
+pub fn read_behind(stdio: Streams, name: &[u8], block: &mut [u8], held: usize) -> Come
     requires { held ≤ length block.old }
     ensures within { (held ≤ result.n) × (result.n ≤ length block.new) }
     ensures held { take held block.new ≡ take held block.old }
 {
-    let got = libc::read(libc::STDIN_FILENO, &mut block[held..]);
-    let k = io::count(got, &block[held..]);
-    if got < 0 {
-        say(name, b": standard input can't be read\n");
+    let mut input = stdio.input;
+    let (k, failed) = match input.read(&mut block[held..]) {
+        Ok(k) => (k, false),
+        Err(_) => (0, true),
+    };
+    if failed {
+        say(stdio, name, b": standard input can't be read\n");
     }
     Come {
         n: held + k,
-        failed: got < 0,
+        failed,
     }
 }
 
 // The first `n` bytes go to standard output: whether they did.
-pub fn write_front(name: &[u8], bytes: &[u8], n: usize) -> bool
+pub fn write_front(stdio: Streams, name: &[u8], bytes: &[u8], n: usize) -> bool
     requires { n ≤ length bytes.now }
 {
-    if io::write_all(libc::STDOUT_FILENO, &bytes[..n]) {
+    if stdio.output.write_all(&bytes[..n]).is_ok() {
         return true;
     }
-    say(name, b": standard output can't be written\n");
+    say(stdio, name, b": standard output can't be written\n");
     false
 }
 
 // The first `n` bytes go to standard error.
-pub fn say_front(bytes: &[u8], n: usize)
+pub fn say_front(stdio: Streams, bytes: &[u8], n: usize)
     requires { n ≤ length bytes.now }
 {
-    io::write_all(libc::STDERR_FILENO, &bytes[..n]);
+    let _ = stdio.errors.write_all(&bytes[..n]);
 }

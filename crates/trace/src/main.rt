@@ -11,6 +11,8 @@ ghost use Rattle.text.specs.Text.{trace_text};
 ghost use Rattle.text.specs.Puts.{Puts, line_room, short_room};
 ghost use Rattle.trace.specs.Going.{Ended};
 
+use streams::Streams;
+
 // A block holds 1,024 records, so that a file's reads leave nothing over; a line takes at most 48 bytes.
 const RECORDS: usize = 1024;
 
@@ -39,7 +41,15 @@ fn empty_lines() -> [u8; LINES]
 }
 
 // No more is read: the line of the bytes that are held stands ready, and is written if the input has ended.
-fn close(name: &[u8], bytes: u64, number: u64, held: usize, ended: bool, lines: &mut [u8]) -> Served
+fn close(
+    stdio: Streams,
+    name: &[u8],
+    bytes: u64,
+    number: u64,
+    held: usize,
+    ended: bool,
+    lines: &mut [u8],
+) -> Served
     requires { length lines.old ≡ 1024 * line_room }
     ensures counts { (result.bytes ≡ bytes) × (result.number ≡ number) }
     ensures line { Puts lines.old 0 (trace_text (short_line held)) lines.new result.next }
@@ -47,7 +57,7 @@ fn close(name: &[u8], bytes: u64, number: u64, held: usize, ended: bool, lines: 
 {
     let next = replay::finish(held, lines);
     if ended {
-        streams::write_front(name, lines, next);
+        streams::write_front(stdio, name, lines, next);
     }
     Served {
         bytes,
@@ -57,7 +67,7 @@ fn close(name: &[u8], bytes: u64, number: u64, held: usize, ended: bool, lines: 
 }
 
 // The whole input is traced, part by part. A failure is said on standard error and ends the trace.
-fn run(name: &[u8], table: &mut [u8], lines: &mut [u8]) -> Served
+fn run(stdio: Streams, name: &[u8], table: &mut [u8], lines: &mut [u8]) -> Served
     requires table_len { length table.old ≡ table_length printer }
     requires lines_len { length lines.old ≡ 1024 * line_room }
     ensures { Ended table.old result.bytes result.number table.new (take result.next lines.new) }
@@ -68,25 +78,25 @@ fn run(name: &[u8], table: &mut [u8], lines: &mut [u8]) -> Served
     let mut held: usize = 0;
     let mut reads = streams::READS;
     while 0 < reads {
-        let come = streams::read_behind(name, &mut block, held);
+        let come = streams::read_behind(stdio, name, &mut block, held);
         let n = come.n;
         if n == held {
-            return close(name, bytes, number, held, !come.failed, lines);
+            return close(stdio, name, bytes, number, held, !come.failed, lines);
         }
         bytes += (n - held) as u64;
         let served = replay::serve(table, number, &mut block, n, lines);
         number = served.number;
         held = served.held;
-        if !streams::write_front(name, lines, served.next) {
-            return close(name, bytes, number, held, false, lines);
+        if !streams::write_front(stdio, name, lines, served.next) {
+            return close(stdio, name, bytes, number, held, false, lines);
         }
         reads -= 1;
     }
-    close(name, bytes, number, held, false, lines)
+    close(stdio, name, bytes, number, held, false, lines)
 }
 
-fn main() {
+fn main(rt: HostRuntime) {
     let mut table = replay::fresh();
     let mut lines = empty_lines();
-    run(b"trace", &mut table, &mut lines);
+    run(streams::of(&rt), b"trace", &mut table, &mut lines);
 }
