@@ -14,7 +14,7 @@ use lib.Count.{count_leading_zeros, leading_top}
 use lib.Dec.{eqb, leb, ltb}
 use lib.ListN.{length, set, take, length-set}
 use lib.Seq.{get_or-set_same, get_or-set_other, set-get_or}
-use Rattle.rules.specs.Basic.{if◌then◌else◌, bit, count}
+use Rattle.rules.specs.Basic.{if◌then◌else◌, bit}
 use Rattle.rules.specs.Board.{top_priority}
 use Rattle.rules.specs.State.{State, free, at, is_ready, edit}
 use Rattle.rules.specs.Lines.{ready, line, in_line, line_length, leave, tail_place, has_member, bits_below, ready_word}

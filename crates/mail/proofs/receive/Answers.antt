@@ -1,0 +1,27 @@
+-- `mail::receive` meets its contract: each way out is a branch of the rule. Assumes nothing.
+use mathlib.Core.Path.{refl, ap}
+use native.Mathlib.Omega.{arith}
+use Rattle.rules.specs.Mail.{do_receive}
+use Rattle.rules.specs.declared.Wait.TheVariants.{Receive}
+use Rattle.waiting.proofs.Doing.{does_as, then_does}
+use Rattle.mail.proofs.receive.Goals as goal
+
+pub load_thread-th-requires : goal.load_thread-th-requires
+load_thread-th-requires c = (omega (arith, c.requires.runs, c.running-r.ensures _ refl), c.requires.whole.long)
+
+pub empty_mailbox-requires : goal.empty_mailbox-requires
+empty_mailbox-requires c = (omega (arith, c.requires.runs, c.running-r.ensures _ refl), c.requires.whole)
+
+pub returns-then-th : goal.returns-then-th
+unfolding do_receive
+returns-then-th c =
+    let running = c.running-r in
+    let load-thread = c.load_thread-th in
+    let if1 = c.if-th in
+    then_does c.empty_mailbox.ensures c.accept.ensures (λ s h. rw (← running.ensures s h.says, ← load-thread.ensures s h.says, if1.true))
+
+pub returns : goal.returns
+unfolding do_receive
+returns c =
+    let running = c.running-r in
+    does_as (c.must_wait.ensures Receive (ap Receive c.wait_counter-counter.ensures)) (λ s h. rw (← running.ensures s h.says, ← c.load_thread-th.ensures s h.says, c.if-th.false))

@@ -1,0 +1,33 @@
+-- `semaphores::make` meets its contract: each way out is a branch of the rule. Assumes nothing.
+use native.Mathlib.Omega.{arith}
+use lib.ListN.{length}
+use borrow.Author.Tests.{le-leb, lt-leb, lt-ltb, le-ltb}
+use Rattle.rules.specs.Board.{most_count}
+use Rattle.rules.specs.Semaphores.{do_make}
+use Rattle.layout.proofs.Boards.{sized}
+use Rattle.layout.proofs.Held.{holds_sized}
+use Rattle.waiting.proofs.Doing.{does_nothing, then_does}
+use Rattle.semaphores.proofs.make.Goals as goal
+
+pub returns-then-j-semaphores : goal.returns-then-j-semaphores
+unfolding do_make
+returns-then-j-semaphores c = does_nothing c.requires.whole (λ s e. rw (le-leb (length s.sems) c.args.k (omega (arith, c.semaphores.ensures, (sized c.requires.whole.long e).sems))))
+
+pub returns-then-e : goal.returns-then-e
+unfolding do_make
+returns-then-e c = does_nothing c.requires.whole (λ s e. rw (lt-leb (length s.sems) c.args.k (omega (arith, c.semaphores.ensures, (sized c.requires.whole.long e).sems)), ← c.load_sem-e.ensures s e, c.if-e.true))
+
+pub returns-then-n-gt-MOST_COUNT : goal.returns-then-n-gt-MOST_COUNT
+unfolding do_make
+returns-then-n-gt-MOST_COUNT c = does_nothing c.requires.whole (λ s e. rw (lt-leb (length s.sems) c.args.k (omega (arith, c.semaphores.ensures, (sized c.requires.whole.long e).sems)), ← c.load_sem-e.ensures s e, c.if-e.false, lt-ltb most_count c.args.n c.if-n-gt-MOST_COUNT.true))
+
+pub set_count-requires : goal.set_count-requires
+set_count-requires c = (omega (arith, c.semaphores.ensures), c.requires.whole)
+
+pub returns : goal.returns
+unfolding do_make
+returns c =
+    let load-sem = c.load_sem-e in
+    let if2 = c.if-e in
+    let if3 = c.if-n-gt-MOST_COUNT in
+    then_does c.set_count.ensures c.accept.ensures (λ s h. rw (lt-leb (length s.sems) c.args.k (omega (arith, c.semaphores.ensures, (holds_sized h).sems)), ← load-sem.ensures s h.says, if2.false, le-ltb most_count c.args.n if3.false))
