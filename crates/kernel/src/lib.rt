@@ -68,8 +68,7 @@ fn can_serve(table: &[u8], answer: &[u8]) -> bool
 }
 
 // The door: for every table, record and answer area, whatever their lengths and bytes. The code is given back too.
-#[unsafe(no_mangle)]
-pub extern "C" fn speltmallet_door(table: &mut [u8], request: &[u8], answer: &mut [u8]) -> i32
+pub fn speltmallet_door(table: &mut [u8], request: &[u8], answer: &mut [u8]) -> i32
     ensures code { result ≡ (door printer table.old request.now answer.old).code }
     ensures table { table.new ≡ (door printer table.old request.now answer.old).table }
     ensures area { answer.new ≡ (door printer table.old request.now answer.old).area }

@@ -11,7 +11,6 @@ use lib.ListN.{length}
 use borrow.Author.Tests.{leb-true, le-leb, eqb-true}
 use Rattle.rules.specs.Basic.{if◌then◌else◌}
 use Rattle.rules.specs.Requests.{kept}
-use Rattle.laws.proofs.Split.{is}
 use Rattle.text.specs.Text.{decimal}
 use Rattle.text.proofs.Decimal.{decimal_room}
 use Rattle.listing.specs.Line.{Front, ◌and_then◌, field_text, digit_first, digits_from, number_from, at_most, spaced_from, field_from, plain_from}

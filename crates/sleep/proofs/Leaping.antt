@@ -59,11 +59,14 @@ leapt {t} {t'} {n} {far} {rounds} v h told c =
 
 -- what is told of a leap from table t, and what it leaves
 abbrev pub Tells : List ℕ → List ℕ → ℕ → ℕ → (State → Leap) → Type 0
-Tells t t' far rounds rule = ((s : State) → Holds t s → (far ≡ (rule s).far) × (rounds ≡ (rule s).rounds)) × Becomes t t' (λ s. (rule s).state)
+Tells t t' far rounds rule = record {
+  leapt : (s : State) → Holds t s → (far ≡ (rule s).far) × (rounds ≡ (rule s).rounds);
+  table : Becomes t t' (λ s. (rule s).state);
+}
 
 -- the same by another rule
 pub tells_as : (t t' : List ℕ) (far rounds : ℕ) (arm rule : State → Leap) → Tells t t' far rounds arm → ((s : State) → Holds t s → rule s ≡ arm s) → Tells t t' far rounds rule
-tells_as t t' far rounds arm rule d e = (
-  λ s h. ((d.0 s h).0 ∙ sym (ap (λ l. l.far) (e s h)), (d.0 s h).1 ∙ sym (ap (λ l. l.rounds) (e s h))),
-  becomes_as d.1 (λ s h. sym (ap (λ l. l.state) (e s h))),
-)
+tells_as t t' far rounds arm rule d e = record {
+  leapt = λ s h. ((d.leapt s h).0 ∙ sym (ap (λ l. l.far) (e s h)), (d.leapt s h).1 ∙ sym (ap (λ l. l.rounds) (e s h)));
+  table = becomes_as d.table (λ s h. sym (ap (λ l. l.state) (e s h)));
+}

@@ -13,7 +13,7 @@ use Rattle.rules.specs.Table.{word_at}
 use Rattle.rules.specs.Requests.{Operation, operation_of, kept, asked_by, request_of, decode_request}
 use Rattle.rules.specs.declared.Request.{Request}
 use Rattle.rules.specs.declared.Decoded.TheVariants.{Asked, Bad}
-use Rattle.laws.proofs.Split.{is, clash}
+use Rattle.laws.proofs.Split.{clash}
 use Rattle.request.specs.Written.{record_bytes}
 use Rattle.listing.specs.Line.{◌and_then◌, field_from, fields_from, ended, most_byte, most_word, refused, field_text, line_text, line_of}
 use Rattle.listing.specs.Listing.{line_feed}

@@ -40,7 +40,7 @@ returns c =
     let called = c.before.before.before.speltmallet-door in
     let size : start.args.at + request_length - start.args.at ≡ request_length = omega arith in
     let served = ap (λ b. door b start.args.table.now (take request_length (drop start.args.at start.args.input.now)) clean_area) (printer_board _ start.requires.0) in
-    (code_is called.result (record { sfits = called.type-inv }) ∙ ap is_zero (rw size at called.ensures.0 ∙ ap (λ d. d.code) served), rw size at called.ensures.1.0 ∙ ap (λ d. d.table) served)
+    (code_is called.result (record { sfits = called.type_inv }) ∙ ap is_zero (rw size at called.ensures.0 ∙ ap (λ d. d.code) served), rw size at called.ensures.1.0 ∙ ap (λ d. d.table) served)
 
 pub serve_one_spec : {M : Type 1} → statement M
 serve_one_spec =

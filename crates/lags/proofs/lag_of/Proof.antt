@@ -72,7 +72,7 @@ returns_2 c =
     let rank = c.before.before.before.rank-of.ensures in
     let turns = rank.0.1 ∙ ap (λ t. sum_turns t.priority s.threads) own in
     let charged = rank.1.1 ∙ ap (λ t. sum_over t.priority f 0 s.threads) own in
-    let same = to_z-of_z w64 c.lag.result (record { sfits = c.lag.type-inv }) in
+    let same = to_z-of_z w64 c.lag.result (record { sfits = c.lag.type_inv }) in
     (same ∙ c.lag.ensures.0 ∙ (λ j. sub_ℕ (f i * turns j) ((own j).turn * charged j)) ∙ lag_ready f s i ready, rw same c.lag.ensures.1)
 
 pub lag_of_spec : {M : Type 1} → statement M

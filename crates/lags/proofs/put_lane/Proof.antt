@@ -58,13 +58,13 @@ put-field-requires-2 c κs =
 put-signed-requires : tie.Need-put-signed-requires
 put-signed-requires c κs =
     let start = c.before.before.before.before.before.before.before.before.before.before.before.before.before.before.before.before.before in
-    let digits : length (signed (read c.before.before.before.before.before.before.before.before.before.before.lag-of.result)) ≤ 19 = rw (to_z-of_z w64 c.before.before.before.before.before.before.before.before.before.before.lag-of.result (record { sfits = c.before.before.before.before.before.before.before.before.before.before.lag-of.type-inv })) c.before.before.before.before.before.before.before.before.before.before.lag-of.ensures.1 in
+    let digits : length (signed (read c.before.before.before.before.before.before.before.before.before.before.lag-of.result)) ≤ 19 = rw (to_z-of_z w64 c.before.before.before.before.before.before.before.before.before.before.lag-of.result (record { sfits = c.before.before.before.before.before.before.before.before.before.before.lag-of.type_inv })) c.before.before.before.before.before.before.before.before.before.before.lag-of.ensures.1 in
     omega (arith, room start, start.requires.1.1.1, c.before.before.before.before.before.before.before.before.put-field.ensures.1, c.before.before.before.put-field2.ensures.1, digits, c.before.before.before.before.before.before.before.before.put-field.auto, c.before.before.before.put-field2.auto)
 
 put_byte_requires : tie.Need-put-byte-requires
 put_byte_requires c κs =
     let start = c.before.before.before.before.before.before.before.before.before.before.before.before.before.before.before.before.before.before.before.before.before in
-    let digits : length (signed (read c.before.before.before.before.before.before.before.before.before.before.before.before.before.before.lag-of.result)) ≤ 19 = rw (to_z-of_z w64 c.before.before.before.before.before.before.before.before.before.before.before.before.before.before.lag-of.result (record { sfits = c.before.before.before.before.before.before.before.before.before.before.before.before.before.before.lag-of.type-inv })) c.before.before.before.before.before.before.before.before.before.before.before.before.before.before.lag-of.ensures.1 in
+    let digits : length (signed (read c.before.before.before.before.before.before.before.before.before.before.before.before.before.before.lag-of.result)) ≤ 19 = rw (to_z-of_z w64 c.before.before.before.before.before.before.before.before.before.before.before.before.before.before.lag-of.result (record { sfits = c.before.before.before.before.before.before.before.before.before.before.before.before.before.before.lag-of.type_inv })) c.before.before.before.before.before.before.before.before.before.before.before.before.before.before.lag-of.ensures.1 in
     omega (arith, room start, start.requires.1.1.1, c.before.before.before.before.before.before.before.before.before.before.before.before.put-field.ensures.1, c.before.before.before.before.before.before.before.put-field2.ensures.1, digits, c.before.before.before.put-signed.ensures.place, c.before.before.before.before.before.before.before.before.before.before.before.before.put-field.auto, c.before.before.before.before.before.before.before.put-field2.auto, c.before.before.before.put-signed.auto)
 
 same_length : tie.Need-same-length
@@ -77,7 +77,7 @@ returns_2 c =
     let s = decode printer start.args.table.now in
     let used : (at s.threads i).used ≡ true = ap (λ t. t.used) (sym (c.before.before.before.before.before.before.before.before.before.before.before.before.before.before.before.before.before.before.before.before.load-thread.ensures _ (said_printer _ start.requires.1.0.0))) ∙ not-false _ c.before.before.before.before.before.before.before.before.before.before.before.before.before.before.before.before.before.before.if1.false in
     let charged = with_field (decimal (of start.args.accounts.now i)) (32 ∷ []) c.before.before.before.before.before.before.before.before.before.before.before.before.before.before.before.put-field.ensures.0 c.before.before.before.before.before.before.before.before.before.before.put-field2.ensures.0 in
-    let same = to_z-of_z w64 c.before.before.before.before.before.before.before.before.before.before.before.before.before.before.before.before.before.lag-of.result (record { sfits = c.before.before.before.before.before.before.before.before.before.before.before.before.before.before.before.before.before.lag-of.type-inv }) in
+    let same = to_z-of_z w64 c.before.before.before.before.before.before.before.before.before.before.before.before.before.before.before.before.before.lag-of.result (record { sfits = c.before.before.before.before.before.before.before.before.before.before.before.before.before.before.before.before.before.lag-of.type_inv }) in
     let digits : length (signed (read c.before.before.before.before.before.before.before.before.before.before.before.before.before.before.before.before.before.lag-of.result)) ≤ 19 = rw same c.before.before.before.before.before.before.before.before.before.before.before.before.before.before.before.before.before.lag-of.ensures.1 in
     let own = rw (same, c.before.before.before.before.before.before.before.before.before.before.before.before.before.before.before.before.before.lag-of.ensures.0) at c.before.before.before.before.before.before.put-signed.ensures in (
       rw used (charged followed_by own followed_by c.before.before.put_byte.ensures),

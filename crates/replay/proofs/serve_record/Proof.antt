@@ -66,7 +66,7 @@ returns c =
     let table = rw part at called.ensures.1.0 ∙ ap (λ d. d.table) served in
     let area = rw part at called.ensures.1.1 ∙ ap (λ d. d.area) served in
     let running = c.before.before.before.before.running.ensures _ (said_printer _ (called.auto.0 ∙ start.requires.0)) in
-    let line = rw (to_z-of_z w32 _ (record { sfits = called.type-inv })) at put.ensures.0 in
+    let line = rw (to_z-of_z w32 _ (record { sfits = called.type_inv })) at put.ensures.0 in
     (table, (line_put printer _ _ _ _ _ _ _ _ _ _ _ code area c.before.before.before.before.before.before.word_at.ensures table running line, put.ensures.1))
 
 pub serve_record_spec : {M : Type 1} → statement M

@@ -1,0 +1,10 @@
+-- `places::same` meets its contract, in both branches. Assumes nothing.
+use native.Mathlib.Omega.{arith}
+use borrow.Author.Tests.{eq-eqb, ne_eqb}
+use Rattle.places.proofs.same.Goals as goal
+
+pub returns-then-a-b : goal.returns-then-a-b
+returns-then-a-b c = (rw (eq-eqb _ _ c.if-a-b.true), omega arith)
+
+pub returns-else-a-b : goal.returns-else-a-b
+returns-else-a-b c = (rw (ne_eqb _ _ c.if-a-b.false), omega arith)
