@@ -1,10 +1,10 @@
 -- `lags::rank_of` meets its contract: before turn j both sums are those over the first j threads, and none is above its bound. Assumes nothing.
+use Rattle.std.specs.Prelude.{if◌then◌else◌}
 use mathlib.Core.Path.{◌≡◌, refl, ap, ◌∙◌}
 use Prim.Native.Nat.{◌<◌}
 use native.Mathlib.Omega.{arith}
 use lib.ListN.{length, take}
 use lib.Seq.{take_all}
-use Rattle.rules.specs.Basic.{if◌then◌else◌}
 use Rattle.rules.specs.Board.{printer}
 use Rattle.rules.specs.State.{at}
 use Rattle.rules.specs.Lines.{ready, in_line}
