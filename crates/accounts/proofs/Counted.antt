@@ -1,5 +1,6 @@
 -- The events that a call counts as: itself, unless it is an accepted operation 21, and then its ticks, of which there are at most 99,999. Assumes
 -- nothing.
+use Rattle.std.specs.Prelude.{if◌then◌else◌}
 use mathlib.Core.Bool.{true, false, ◌&&◌}
 use mathlib.Core.Path.{◌≡◌, refl, ap}
 use mathlib.Core.List.{List, [], ◌∷◌}
@@ -8,7 +9,6 @@ use native.Mathlib.Omega.{arith}
 use lib.Dec.{eqb, ltb}
 use borrow.Author.Tests.{ltb-false, ne_eqb}
 use lib.ListN.{length}
-use Rattle.rules.specs.Basic.{if◌then◌else◌}
 use Rattle.rules.specs.Board.{Board, most_ticks}
 use Rattle.rules.specs.State.{State}
 use Rattle.rules.specs.Table.{decode}

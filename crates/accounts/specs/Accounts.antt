@@ -1,6 +1,5 @@
 -- What serving some records makes of the accounts of all threads.
-use Rattle.std.specs.Prelude.{List, [], ◌∷◌, map, ℕ, suc, ◌+◌, ◌-◌, ◌/◌, ◌≤◌, ◌<◌, min, eqb, set}
-use Rattle.rules.specs.Basic.{if◌then◌else◌}
+use Rattle.std.specs.Prelude.{if◌then◌else◌, List, [], ◌∷◌, map, ℕ, suc, ◌+◌, ◌-◌, ◌/◌, ◌≤◌, ◌<◌, min, eqb, set}
 use Rattle.rules.specs.Board.{printer}
 use Rattle.rules.specs.State.{State}
 use Rattle.rules.specs.Requests.{request_length}

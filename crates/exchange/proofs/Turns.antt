@@ -1,5 +1,6 @@
 -- All that has come so far comes to what is done and what is held: whatever comes after it, the whole is what is done and then what comes of the rest.
 -- Assumes nothing.
+use Rattle.std.specs.Prelude.{if◌then◌else◌}
 use mathlib.Core.Path.{◌≡◌, refl, sym, ap, subst, ◌∙◌}
 use mathlib.Core.Bool.{Bool, true, false, ◌||◌}
 use mathlib.Core.List.{List, [], ◌∷◌, ◌++◌, append-nil, append_assoc}
@@ -10,7 +11,6 @@ use lib.Dec.{ltb}
 use lib.ListN.{length, length-append, take, drop}
 use lib.Seq.{sets, length-take-le}
 use borrow.Author.Tests.{lt-ltb}
-use Rattle.rules.specs.Basic.{if◌then◌else◌}
 use Rattle.text.specs.Puts.{Puts}
 use Rattle.text.proofs.Putting.{front, puts_front}
 use Rattle.parts.proofs.Behind.{come, part_size}

@@ -3,9 +3,8 @@
 // as it speaks.
 #![tactic(auto)]
 
-ghost use Rattle.std.specs.Prelude.{◌≤◌, ◌<◌, ◌^◌, ◌≡◌, length, take};
+ghost use Rattle.std.specs.Prelude.{if◌then◌else◌, ◌≤◌, ◌<◌, ◌^◌, ◌≡◌, length, take};
 ghost use Rattle.std.proofs.Math.Option.{none, some};
-ghost use Rattle.rules.specs.Basic.{if◌then◌else◌};
 ghost use Rattle.text.specs.Puts.{Puts};
 ghost use Rattle.listing.specs.Listing.{refusal_text};
 ghost use Rattle.writer.specs.Places.{part_room, refusal_room};

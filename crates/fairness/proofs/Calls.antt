@@ -1,5 +1,6 @@
 -- One call of the door, over bytes, is an event by the rules on the states that the tables say, and one of operation 21 is as many single ticks:
 -- these end with the state that the table after the call says. Assumes nothing.
+use Rattle.std.specs.Prelude.{if◌then◌else◌}
 use mathlib.Core.Bool.{Bool, true, false, ◌&&◌}
 use mathlib.Core.Path.{◌≡◌, refl, ap, sym, ◌∙◌}
 use mathlib.Core.Logic.{◌≢◌}
@@ -8,7 +9,6 @@ use Prim.Native.Nat.{ℕ, zero, suc}
 use lib.Dec.{eqb}
 use borrow.Author.Tests.{eqb-true, eqb-false}
 use lib.ListN.{length}
-use Rattle.rules.specs.Basic.{if◌then◌else◌}
 use Rattle.rules.specs.Board.{Board}
 use Rattle.rules.specs.State.{State, On}
 use Rattle.rules.specs.Table.{encode, decode}

@@ -1,5 +1,6 @@
 -- Fairness: a tick charged to the rank lowers each member's due by 1, every other step leaves the rank as it is, and where k
 -- times as many ticks are charged to the rank as its turns sum to, each due has come round k times. Assumes nothing.
+use Rattle.std.specs.Prelude.{if◌then◌else◌}
 use mathlib.Core.Bool.{Bool, true, false, ◌&&◌}
 use mathlib.Core.Path.{◌≡◌, refl, ap, sym, ◌∙◌}
 use mathlib.Core.List.{List, [], ◌∷◌, ◌++◌}
@@ -8,7 +9,7 @@ use native.Mathlib.Omega.{arith}
 use lib.Dec.{eqb}
 use borrow.Author.Tests.{not-true}
 use lib.ListN.{length, get_or, get_or-map}
-use Rattle.rules.specs.Basic.{if◌then◌else◌, bit, count, all}
+use Rattle.rules.specs.Basic.{bit, count, all}
 use Rattle.rules.specs.State.{State, free, at}
 use Rattle.rules.specs.Lines.{ready, in_line}
 use Rattle.rules.specs.Sound.{Sound}

@@ -1,5 +1,6 @@
 -- Every operation but a tick's charge keeps the rank, where the rank's ready set comes out the same: whom it moves is no member, or has
 -- left the set. Assumes nothing.
+use Rattle.std.specs.Prelude.{if◌then◌else◌}
 use mathlib.Core.Bool.{Bool, true, false, true≢false, not, ◌&&◌, ◌||◌}
 use mathlib.Core.Path.{◌≡◌, refl, ap, sym, ◌∙◌}
 use mathlib.Core.List.{List}
@@ -9,7 +10,6 @@ use native.Mathlib.Decide.{ℕ_discrete, dec_lt}
 use lib.Dec.{eqb, ltb}
 use borrow.Author.Tests.{eq-eqb, ltb-false, not-false, not-true}
 use lib.ListN.{length, get_or-eq_default}
-use Rattle.rules.specs.Basic.{if◌then◌else◌}
 use Rattle.rules.specs.State.{State, free, at, caller, counter_of, waiting, delaying, receiving, pending, is_ready, with_place, with_counter, with_mail, with_priority, with_turn, with_threads, edit}
 use Rattle.rules.specs.Lines.{Line, senders, ready, same, line, in_line, line_length, is_first, first, filled, move, settle}
 use Rattle.rules.specs.Answers.{code_of}

@@ -1,6 +1,7 @@
 -- One rank's ready line as a function from thread numbers to cells, with no list of its members: place 0 says "not a member".
 -- The due of place q is what is left to the members at places 1 to q. Each tick charged to the rank lowers each due by 1, and a due that
 -- comes to 0 begins again at the sum of the turns. Assumes nothing.
+use Rattle.std.specs.Prelude.{if◌then◌else◌}
 use mathlib.Core.Path.{◌≡◌, refl, ap, sym, ◌∙◌}
 use mathlib.Core.Logic.{◌≢◌}
 use Prim.Native.Nat.{ℕ, zero, suc, pred, ◌+◌, ◌*◌, ◌≤◌, ◌<◌}
@@ -11,7 +12,7 @@ use borrow.Author.Tests.{le-leb, lt-leb, eq-eqb, ne_eqb}
 use Rattle.laws.proofs.Sums.{Σ<, Σ_ext, Σ_mono, Σ_at, Σ_one, Σ_two}
 use Rattle.fairness.proofs.Spent.{Spent, nothing, joined, theirs, mine, last, fair, near, in_time_lem, even}
 use Rattle.fairness.specs.Lateness.{Near, InTime, Even}
-use Rattle.rules.specs.Basic.{if◌then◌else◌, bit}
+use Rattle.rules.specs.Basic.{bit}
 
 pub record Cell : Type 0 where
   pub place : ℕ

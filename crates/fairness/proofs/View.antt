@@ -1,5 +1,6 @@
 -- A rank of a state as cells: the members' places, counters and turns, as `Rank` wants them; and a tick's charge as a step of the cells.
 -- Assumes nothing.
+use Rattle.std.specs.Prelude.{if◌then◌else◌}
 use mathlib.Core.Bool.{true, false}
 use mathlib.Core.Path.{◌≡◌, refl, ap, sym, ◌∙◌, fun_ext}
 use mathlib.Core.Logic.{◌≢◌}
@@ -8,9 +9,8 @@ use Prim.Native.Nat.{ℕ, pred, ◌+◌, ◌≤◌, ◌<◌}
 use native.Mathlib.Omega.{arith}
 use native.Mathlib.Decide.{ℕ_discrete}
 use lib.ListN.{length}
-use Rattle.rules.specs.Basic.{if◌then◌else◌}
 use Rattle.rules.specs.State.{State, at, edit, counter_of, with_counter_of, with_place, with_counter}
-use Rattle.rules.specs.Lines.{line, in_line, ready, line_length, move_up, filled, move}
+use Rattle.rules.specs.Lines.{line, in_line, ready, line_length, move_up, move}
 use Rattle.rules.specs.Sound.{Sound, SoundThread}
 use Rattle.rules.specs.declared.Thread.{Thread}
 use Rattle.rules.specs.declared.Wait.{Wait}

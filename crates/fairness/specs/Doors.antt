@@ -1,6 +1,5 @@
 -- A run through a door: its events, read off the tables' bytes and the codes that the door answers.
-use Rattle.std.specs.Prelude.{List, [], ◌∷◌, ◌++◌, ℕ, zero, suc, eqb}
-use Rattle.rules.specs.Basic.{if◌then◌else◌}
+use Rattle.std.specs.Prelude.{if◌then◌else◌, List, [], ◌∷◌, ◌++◌, ℕ, zero, suc, eqb}
 use Rattle.rules.specs.Board.{Board}
 use Rattle.rules.specs.Table.{decode}
 use Rattle.rules.specs.Requests.{decode_request, tick_record}

@@ -1,7 +1,7 @@
 -- A run, event by event, and the words that demand 3 uses of it: the ready set of a rank, its threads' turns, and the ticks that are
 -- charged. They compute from what was asked and answered; they know neither the rules nor the bytes.
-use Rattle.std.specs.Prelude.{Bool, true, false, not, ◌&&◌, List, [], ◌∷◌, map, ℕ, ◌+◌, eqb, ℤ, pos, negsuc}
-use Rattle.rules.specs.Basic.{if◌then◌else◌, bit, same_bytes}
+use Rattle.std.specs.Prelude.{if◌then◌else◌, Bool, true, false, not, ◌&&◌, List, [], ◌∷◌, map, ℕ, ◌+◌, eqb, ℤ, pos, negsuc}
+use Rattle.rules.specs.Basic.{bit, same_bytes}
 use Rattle.rules.specs.State.{State, at}
 use Rattle.rules.specs.Lines.{ready, in_line}
 use Rattle.rules.specs.declared.Thread.{Thread}

@@ -1,4 +1,5 @@
 -- One thread more: the sums over the first j + 1 threads, and the lines of them. Assumes nothing.
+use Rattle.std.specs.Prelude.{if◌then◌else◌}
 use mathlib.Core.Bool.{Bool, true, false}
 use mathlib.Core.Path.{◌≡◌, sym, ap, ◌∙◌}
 use mathlib.Core.List.{List, [], ◌∷◌, ◌++◌, append_assoc, append-nil}
@@ -8,7 +9,6 @@ use native.Mathlib.Numerals.{add-one}
 use lib.IntN.{pos, sub_ℕ}
 use lib.ListN.{length, take}
 use lib.Seq.{take-suc, length-take-le}
-use Rattle.rules.specs.Basic.{if◌then◌else◌}
 use Rattle.rules.specs.State.{State, free, at, is_ready}
 use Rattle.rules.specs.Lines.{ready, in_line}
 use Rattle.rules.specs.declared.Thread.{Thread}

@@ -1,9 +1,8 @@
 // The lane report of a table and of its threads' accounts, put into a lent buffer. `lanes/specs` says what a lag is and what is printed.
 #![tactic(auto)]
 
-ghost use Rattle.std.specs.Prelude.{[], ◌≡◌, ◌+◌, ◌*◌, ◌≤◌, ◌<◌, length};
+ghost use Rattle.std.specs.Prelude.{if◌then◌else◌, [], ◌≡◌, ◌+◌, ◌*◌, ◌≤◌, ◌<◌, length};
 ghost use Rattle.std.proofs.Math.IntN.{sub_ℕ};
-ghost use Rattle.rules.specs.Basic.{if◌then◌else◌};
 ghost use Rattle.rules.specs.Board.{printer, most_ticks};
 ghost use Rattle.rules.specs.State.{at};
 ghost use Rattle.rules.specs.Lines.{ready, in_line};

@@ -3,7 +3,7 @@
 use mathlib.Core.Bool.{true, false, ◌&&◌, ◌||◌}
 use mathlib.Core.Path.{◌≡◌, refl, ap, sym, ◌∙◌}
 use mathlib.Core.List.{List, [], ◌∷◌, ◌++◌, append-nil}
-use Prim.Native.Nat.{ℕ, suc, ◌+◌, ◌*◌, ◌<◌, ◌≤◌, ◌-◌}
+use Prim.Native.Nat.{ℕ, suc, ◌+◌, ◌*◌, ◌<◌, ◌≤◌}
 use native.Mathlib.Omega.{arith}
 use lib.Dec.{eqb, leb}
 use borrow.Author.Tests.{eqb-true, le-ltb}
@@ -83,7 +83,7 @@ not_created p e i (served q a c k) m = rw (a, c) (not_made e.before i q (ready_u
 pub account_append : (i n : ℕ) (xs ys : List Event) → account_from i n (xs ++ ys) ≡ account_from i (account_from i n xs) ys
 unfolding account_from
 account_append i n [] ys = refl
-account_append i n (x ∷ xs) ys = account_append i _ xs ys
+account_append i n (x ∷ xs) ys = account_append i (account_on i n x) xs ys
 
 -- a run adds at most one tick for each event
 on_most : (i n : ℕ) (e : Event) → account_on i n e ≤ n + 1

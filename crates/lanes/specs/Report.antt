@@ -1,7 +1,6 @@
 -- ORDER 5, the lane report: "A program replays a trace without printing its lines and then prints a line for each thread in use at the end,
 -- by number". What it prints of an input is said here, byte for byte.
-use Rattle.std.specs.Prelude.{Bool, ◌≡◌, List, [], ◌∷◌, ◌++◌, map, ℕ, suc, ◌+◌, ◌-◌, ◌*◌, ◌/◌, ◌<◌, ltb, ℤ, length, take}
-use Rattle.rules.specs.Basic.{if◌then◌else◌}
+use Rattle.std.specs.Prelude.{if◌then◌else◌, Bool, ◌≡◌, List, [], ◌∷◌, ◌++◌, map, ℕ, suc, ◌+◌, ◌-◌, ◌*◌, ◌/◌, ◌<◌, ltb, ℤ, length, take}
 use Rattle.rules.specs.Board.{Board, most_ticks}
 use Rattle.rules.specs.State.{State}
 use Rattle.rules.specs.Table.{decode}

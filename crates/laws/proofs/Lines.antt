@@ -1,11 +1,11 @@
 -- What the tests of lines say, and which changes of a record leave its line alone: by cases on the wait. Assumes nothing.
+use Rattle.std.specs.Prelude.{if◌then◌else◌}
 use mathlib.Core.Bool.{Bool, true, false, not, ◌&&◌}
 use mathlib.Core.Path.{◌≡◌, refl, ap, sym}
 use mathlib.Core.Logic.{◌↔◌}
 use Prim.Native.Nat.{ℕ}
 use lib.Dec.{eqb}
 use borrow.Author.Tests.{eqb-true, eq-eqb, not-false}
-use Rattle.rules.specs.Basic.{if◌then◌else◌}
 use Rattle.rules.specs.State.{waiting, is_ready, with_counter, with_counter_of, with_suspended, with_priority}
 use Rattle.rules.specs.Test.{is_nowhere}
 use Rattle.rules.specs.Lines.{Line, nowhere, ready, waiters, senders, same, wait_line, line, in_line, filled}

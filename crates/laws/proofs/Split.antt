@@ -1,10 +1,10 @@
 -- A case split on a test that remembers the test's value. Assumes nothing.
+use Rattle.std.specs.Prelude.{if◌then◌else◌}
 use mathlib.Core.Bool.{Bool, true, false, ◌&&◌, ◌||◌}
 use mathlib.Core.Path.{◌≡◌, refl, sym}
 use mathlib.Core.Logic.{◌↔◌}
 use Prim.Native.Nat.{ℕ}
 use native.Mathlib.Omega.{arith}
-use Rattle.rules.specs.Basic.{if◌then◌else◌}
 
 pub data Is (b : Bool) : Type 0 where
   is : b ≡ true → Is b

@@ -1,5 +1,6 @@
 -- Whom a leap charges: under lock nobody, while its turn goes on the thread that runs, and by whole rounds each thread of the rank that runs as
 -- many turns, since its due comes round; who is not of that rank runs in none of the ticks. Assumes nothing.
+use Rattle.std.specs.Prelude.{if◌then◌else◌}
 use mathlib.Core.Bool.{Bool, false, not}
 use mathlib.Core.Path.{◌≡◌, refl, ap, sym, ◌∙◌}
 use mathlib.Core.List.{map}
@@ -8,7 +9,7 @@ use Prim.Native.Nat.{ℕ, zero, suc, pred, ◌*◌, ◌/◌, ◌-◌, ◌≤◌,
 use native.Mathlib.Omega.{arith}
 use lib.Dec.{eqb, leb}
 use borrow.Author.Tests.{eqb-true, eqb-false, leb-true, leb-false, not-true, not-false, eq-eqb, ne_eqb}
-use Rattle.rules.specs.Basic.{if◌then◌else◌, count}
+use Rattle.rules.specs.Basic.{count}
 use Rattle.rules.specs.State.{State, at, caller, counter_of}
 use Rattle.rules.specs.Lines.{ready, same}
 use Rattle.rules.specs.Sound.{Sound}

@@ -1,6 +1,6 @@
 -- Who is charged by a leap, without its single ticks, and by these.
-use Rattle.std.specs.Prelude.{not, ◌≡◌, List, [], ◌∷◌, ℕ, zero, suc, ◌*◌, ◌≤◌, eqb, pos}
-use Rattle.rules.specs.Basic.{if◌then◌else◌, count}
+use Rattle.std.specs.Prelude.{if◌then◌else◌, not, ◌≡◌, List, [], ◌∷◌, ℕ, zero, suc, ◌*◌, ◌≤◌, eqb, pos}
+use Rattle.rules.specs.Basic.{count}
 use Rattle.rules.specs.State.{State, at}
 use Rattle.rules.specs.Lines.{ready, in_line}
 use Rattle.rules.specs.Time.{do_tick}

@@ -1,6 +1,5 @@
 -- Many ticks, one after the other, and what they come to where no wait ends. A leap does some of them at once.
-use Rattle.std.specs.Prelude.{true, not, ◌≡◌, List, map, ℕ, pred, ◌*◌, ◌/◌, ◌-◌, ◌≤◌, ◌<◌, min, eqb, leb}
-use Rattle.rules.specs.Basic.{if◌then◌else◌}
+use Rattle.std.specs.Prelude.{if◌then◌else◌, true, not, ◌≡◌, List, map, ℕ, pred, ◌*◌, ◌/◌, ◌-◌, ◌≤◌, ◌<◌, min, eqb, leb}
 use Rattle.rules.specs.State.{State, at, edit, caller, counter_of, waiting, with_counter, with_threads}
 use Rattle.rules.specs.Time.{do_tick}
 use Rattle.rules.specs.Sleep.{ticks, nearest}

@@ -1,4 +1,5 @@
 -- A count as a power of 2. Assumes nothing.
+use Rattle.std.specs.Prelude.{if◌then◌else◌}
 use mathlib.Core.Bool.{Bool, true, false}
 use mathlib.Core.Path.{◌≡◌, ap, sym, ◌∙◌}
 use mathlib.Core.List.{List}
@@ -8,7 +9,7 @@ use native.Mathlib.Numerals.{add-one}
 use native.Mathlib.Omega.{arith}
 use lib.Count.{count_leading_zeros, leading_top}
 use lib.ListN.{length, take}
-use Rattle.rules.specs.Basic.{if◌then◌else◌, bit, count}
+use Rattle.rules.specs.Basic.{bit, count}
 use Rattle.rules.specs.State.{free, at}
 use Rattle.rules.specs.declared.Thread.{Thread}
 use Rattle.laws.proofs.Turns.{count_turn}

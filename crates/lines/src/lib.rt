@@ -4,8 +4,7 @@
 // table and says by `Becomes` what the table holds then. A line goes by its number, `line_number`, and its members are known by its mark.
 #![tactic(auto)]
 
-ghost use Rattle.std.specs.Prelude.{◌≡◌, ℕ, ◌*◌, ◌^◌, ◌≤◌, ◌<◌, map};
-ghost use Rattle.rules.specs.Basic.{if◌then◌else◌};
+ghost use Rattle.std.specs.Prelude.{if◌then◌else◌, ◌≡◌, ℕ, ◌*◌, ◌^◌, ◌≤◌, ◌<◌, map};
 ghost use Rattle.rules.specs.State.{State, at, is_ready, edit, with_place};
 ghost use Rattle.rules.specs.Lines.{Line, ready, in_line, line_length, first, move_up, leave, filled, tail_place, join, move};
 ghost use Rattle.layout.specs.Boards.{HasThread};

@@ -1,5 +1,6 @@
 -- An input in parts is the input: what comes out of a part, and then of what is left of it with the next part, is what comes out of both. Assumes
 -- nothing.
+use Rattle.std.specs.Prelude.{if◌then◌else◌}
 use mathlib.Core.Path.{◌≡◌, refl, sym, ap, ◌∙◌}
 use mathlib.Core.Bool.{Bool, true, false, ◌||◌}
 use mathlib.Core.List.{List, [], ◌∷◌, ◌++◌, flatten, append-nil, append_assoc}
@@ -10,7 +11,6 @@ use lib.Dec.{eqb}
 use lib.ListN.{length, length-append}
 use borrow.Author.Tests.{ltb-true}
 use Rattle.laws.proofs.Split.{is, isnt, test, clash, or_false}
-use Rattle.rules.specs.Basic.{if◌then◌else◌}
 use Rattle.listing.specs.Line.{line_most, record_of}
 use Rattle.listing.specs.Listing.{Cut, Out, line_feed, lengthened, lines_of, cut, input_of, rule, each, turned_from}
 use Rattle.listing.specs.Parts.{part_of, is_bad, too_long, stops, holds, is_some, out_of_all, InParts}

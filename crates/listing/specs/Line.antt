@@ -1,8 +1,7 @@
 -- A line of a listing and its record. Order 2: "one request per text line, the operation's number, then the fields it uses in record order, in
 -- decimal, single spaces, and out come 12-byte records."
-use Rattle.std.specs.Prelude.{Bool, true, false, not, ◌&&◌, List, [], ◌∷◌, ◌++◌, ℕ, ◌+◌, ◌*◌, ◌-◌, eqb, leb, ltb, length, get_or}
+use Rattle.std.specs.Prelude.{if◌then◌else◌, Bool, true, false, not, ◌&&◌, List, [], ◌∷◌, ◌++◌, ℕ, ◌+◌, ◌*◌, ◌-◌, eqb, leb, ltb, length, get_or}
 use Rattle.std.proofs.Math.Option.{Option, none, some}
-use Rattle.rules.specs.Basic.{if◌then◌else◌}
 use Rattle.rules.specs.Table.{word_at}
 use Rattle.rules.specs.Requests.{Operation, operation_of, decode_request}
 use Rattle.rules.specs.declared.Decoded.{Decoded}

@@ -2,8 +2,7 @@
 -- Refusals: bad line, with its number from 0." Records go to a listing in the same way.
 use mathlib.Core.List.{List, [], ◌∷◌, ◌++◌, flatten}
 use Rattle.std.proofs.Math.Option.{Option, none, some}
-use Rattle.std.specs.Prelude.{ℕ, suc, eqb}
-use Rattle.rules.specs.Basic.{if◌then◌else◌}
+use Rattle.std.specs.Prelude.{if◌then◌else◌, ℕ, suc, eqb}
 use Rattle.rules.specs.Trace.{whole_records}
 use Rattle.text.specs.Text.{ascii, decimal}
 use Rattle.parts.specs.LeftOver.{left_over}

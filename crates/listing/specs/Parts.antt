@@ -1,9 +1,8 @@
 -- An input that comes in parts, as a program reads it: where it stands between two of them, and what comes out of each. However the input is
 -- cut into parts, what comes out of them one after the other is what comes out of the whole.
-use Rattle.std.specs.Prelude.{Bool, true, false, ◌||◌, ◌≡◌, ℕ, ◌+◌, ltb, length}
+use Rattle.std.specs.Prelude.{if◌then◌else◌, Bool, true, false, ◌||◌, ◌≡◌, ℕ, ◌+◌, ltb, length}
 use mathlib.Core.List.{List, [], ◌∷◌, ◌++◌, flatten}
 use Rattle.std.proofs.Math.Option.{Option, none, some}
-use Rattle.rules.specs.Basic.{if◌then◌else◌}
 use Rattle.listing.specs.Line.{line_most}
 use Rattle.listing.specs.Listing.{Out, cut, rule, each, turned}
 use Rattle.listing.specs.declared.Way.{Way}

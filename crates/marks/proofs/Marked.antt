@@ -1,5 +1,6 @@
 -- A mark tells what it is for: of the eight bytes those that it asks are compared, byte by byte, since each stands in bits of its own.
 -- Assumes nothing.
+use Rattle.std.specs.Prelude.{if◌then◌else◌}
 use mathlib.Core.Bool.{Bool, true, false, ◌&&◌}
 use mathlib.Core.Path.{◌≡◌, refl, ap, sym, ◌∙◌}
 use mathlib.Core.List.{List}
@@ -10,7 +11,7 @@ use borrow.Author.Tests.{ne_eqb, eqb-true, eqb-false, le-leb, lt-leb, leb-true, 
 use lib.Bits.{bit_and, and_block, and_mask, and_zero_r, and_le_l}
 use lib.Dec.{eqb, leb}
 use lib.ListN.{get_or}
-use Rattle.rules.specs.Basic.{if◌then◌else◌, bit}
+use Rattle.rules.specs.Basic.{bit}
 use Rattle.rules.specs.Board.{record_length}
 use Rattle.rules.specs.State.{State, at}
 use Rattle.rules.specs.Lines.{Line, nowhere, ready, waiters, senders, same, wait_line, line, in_line, is_first, ready_word}

@@ -1,7 +1,7 @@
 -- The mark of a line: which bits of a record's first eight bytes, read as a number, tell that its thread stands there, and what they are.
 -- The bytes are use, priority, suspended, wait kind, wait object, place, mailbox full and outcome, the lowest first.
-use Rattle.std.specs.Prelude.{ℕ, ◌+◌, ◌*◌, eqb, leb}
-use Rattle.rules.specs.Basic.{if◌then◌else◌, bit}
+use Rattle.std.specs.Prelude.{if◌then◌else◌, ℕ, ◌+◌, ◌*◌, eqb, leb}
+use Rattle.rules.specs.Basic.{bit}
 use Rattle.rules.specs.Table.{kind_of, object_of, outcome_byte}
 use Rattle.rules.specs.Lines.{Line, nowhere, ready, waiters, senders}
 use Rattle.rules.specs.declared.Thread.{Thread}

@@ -1,7 +1,7 @@
 -- Whether threads are well placed, by what is noted of them: the number of each one's line, 0 for none, and its place.
-use Rattle.std.specs.Prelude.{◌≡◌, Bool, false, ◌&&◌, List, ℕ, zero, suc, ◌+◌, ◌*◌, ◌/◌, ◌≤◌, ◌<◌, eqb, leb, length, get_or}
+use Rattle.std.specs.Prelude.{if◌then◌else◌, ◌≡◌, Bool, false, ◌&&◌, List, ℕ, zero, suc, ◌+◌, ◌*◌, ◌/◌, ◌≤◌, ◌<◌, eqb, leb, length, get_or}
 use Rattle.std.proofs.Math.Seq.{paste}
-use Rattle.rules.specs.Basic.{if◌then◌else◌, bit}
+use Rattle.rules.specs.Basic.{bit}
 use Rattle.rules.specs.Board.{most_threads}
 
 -- how many of the numbers below n pass

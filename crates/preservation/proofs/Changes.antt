@@ -1,11 +1,11 @@
 -- Which changes keep a thread what its table asks: each is a word on the one record that changes. A thread that moves has place 0 until
 -- it joins its line, so that nothing is asked of a ready one's counter before. Assumes nothing.
+use Rattle.std.specs.Prelude.{if◌then◌else◌}
 use mathlib.Core.Bool.{Bool, true, false, not, ◌&&◌}
 use mathlib.Core.Path.{◌≡◌, refl, ap, ◌∙◌}
 use mathlib.Core.Logic.{◌≢◌}
 use Prim.Native.Nat.{ℕ, ◌≤◌}
 use native.Mathlib.Omega.{arith}
-use Rattle.rules.specs.Basic.{if◌then◌else◌}
 use Rattle.rules.specs.Board.{top_priority, most_ticks}
 use Rattle.rules.specs.State.{free, counter_of, with_counter_of, waiting, delaying, receiving, sending, is_ready, with_place, with_counter, with_wait, with_suspended, with_mail, with_priority, with_turn}
 use Rattle.rules.specs.Lines.{nowhere, ready, line, wait_line}

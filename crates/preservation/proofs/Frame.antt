@@ -1,5 +1,6 @@
 -- A step neither adds nor takes away a record, and with lock above 0 after it the running thread is the one before: every operation
 -- is moves and edits, and only settling with lock 0 says anew who runs. Assumes nothing.
+use Rattle.std.specs.Prelude.{if◌then◌else◌}
 use mathlib.Core.Bool.{Bool, true, false}
 use mathlib.Core.Path.{◌≡◌, refl, sym, ◌∙◌}
 use mathlib.Core.List.{List}
@@ -7,7 +8,6 @@ use Prim.Native.Nat.{ℕ, zero, suc}
 use borrow.Author.Tests.{eqb-true}
 use lib.Dec.{eqb}
 use lib.ListN.{length, set, length-set}
-use Rattle.rules.specs.Basic.{if◌then◌else◌}
 use Rattle.rules.specs.Board.{Board}
 use Rattle.rules.specs.State.{State, On, with_threads, with_sems, with_lock, edit}
 use Rattle.rules.specs.Lines.{Line, first, move, settle}

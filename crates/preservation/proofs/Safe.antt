@@ -1,4 +1,5 @@
 -- A step is safe when it leaves a sound state: what a ladder of tests, a refusal and an acceptance come to. Assumes nothing.
+use Rattle.std.specs.Prelude.{if◌then◌else◌}
 use mathlib.Core.Bool.{Bool, true, false, ◌||◌}
 use mathlib.Core.Path.{◌≡◌, refl}
 use mathlib.Core.Logic.{◌≢◌}
@@ -7,7 +8,6 @@ use Prim.Native.Nat.{ℕ, ◌≤◌}
 use native.Mathlib.Omega.{arith}
 use borrow.Author.Tests.{ltb-false}
 use lib.Dec.{eqb, ltb}
-use Rattle.rules.specs.Basic.{if◌then◌else◌}
 use Rattle.rules.specs.Board.{top_priority, most_ticks}
 use Rattle.rules.specs.State.{State, caller, with_threads}
 use Rattle.rules.specs.Lines.{move, settle}

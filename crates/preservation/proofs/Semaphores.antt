@@ -7,7 +7,7 @@ use native.Mathlib.Omega.{arith}
 use lib.Dec.{leb, ltb}
 use lib.ListN.{length, set}
 use Rattle.rules.specs.Board.{most_ticks, most_count}
-use Rattle.rules.specs.State.{State, free_sem, at, sem_at, caller, with_threads, with_sems}
+use Rattle.rules.specs.State.{State, free_sem, sem_at, caller, with_threads, with_sems}
 use Rattle.rules.specs.Lines.{waiters, line_length}
 use Rattle.rules.specs.Waiting.{serve}
 use Rattle.rules.specs.Semaphores.{no_sem, count_of, with_count, too_many, posted, do_make, do_drop, do_pend, do_post, do_post_from_interrupt}

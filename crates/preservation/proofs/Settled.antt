@@ -1,5 +1,6 @@
 -- A sound state asks of its threads what it is sound by, and a state whose threads are what it asks is sound once it is settled: the
 -- running thread is then the top, or under lock the one that it asks to stay ready. Assumes nothing.
+use Rattle.std.specs.Prelude.{if◌then◌else◌}
 use mathlib.Core.Bool.{Bool, true, false, not, ◌&&◌}
 use mathlib.Core.Path.{◌≡◌, refl, ap}
 use mathlib.Core.Logic.{◌≢◌}
@@ -10,7 +11,6 @@ use native.Mathlib.Decide.{ℕ_discrete}
 use borrow.Author.Tests.{eqb-false, eq-eqb}
 use lib.Dec.{eqb}
 use lib.ListN.{set}
-use Rattle.rules.specs.Basic.{if◌then◌else◌}
 use Rattle.rules.specs.Board.{most_count, most_lock}
 use Rattle.rules.specs.State.{State, free, free_sem, at, sem_at, waiting, is_ready, with_threads, with_sems, with_lock, with_running}
 use Rattle.rules.specs.Lines.{Line, nowhere, ready, waiters, senders, same, line, wait_line, in_line, line_length, top, settle}

@@ -1,5 +1,6 @@
 -- The ends of waits keep what a table asks of its threads, and they shorten a line: each takes the line's first thread out of it, so
 -- that as many ends as the line has members leave nobody in it. Assumes nothing.
+use Rattle.std.specs.Prelude.{if◌then◌else◌}
 use mathlib.Core.Bool.{Bool, true, false}
 use mathlib.Core.Path.{◌≡◌, refl, ap}
 use mathlib.Core.List.{List}
@@ -7,7 +8,7 @@ use Prim.Native.Nat.{ℕ, zero, suc, pred, ◌-◌, ◌<◌}
 use native.Mathlib.Omega.{arith}
 use native.Mathlib.Decide.{dec_lt}
 use lib.ListN.{length}
-use Rattle.rules.specs.Basic.{if◌then◌else◌, bit}
+use Rattle.rules.specs.Basic.{bit}
 use Rattle.rules.specs.State.{free, at, with_place}
 use Rattle.rules.specs.Lines.{Line, nowhere, ready, waiters, senders, same, in_line, line_length, is_first, first}
 use Rattle.rules.specs.Waiting.{ended, end_wait, serve}

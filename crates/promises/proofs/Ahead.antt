@@ -1,5 +1,6 @@
 -- The value beside code 1 is what the bytes say: only Delay, Send, Receive, Pend and Outcome answer 1, a call that waits says how many
 -- threads stand in its line, and a thread stands in a line of senders or of waiters exactly when its record says so. Assumes nothing.
+use Rattle.std.specs.Prelude.{if◌then◌else◌}
 use mathlib.Core.Bool.{Bool, true, false, ◌&&◌, ◌||◌}
 use mathlib.Core.Path.{◌≡◌, refl, ap, sym, ◌∙◌}
 use mathlib.Core.List.{List, [], ◌∷◌, map}
@@ -8,7 +9,7 @@ use native.Mathlib.Omega.{arith}
 use lib.Dec.{eqb}
 use lib.IntN.{pos, negsuc}
 use lib.ListN.{length}
-use Rattle.rules.specs.Basic.{if◌then◌else◌, bit, count}
+use Rattle.rules.specs.Basic.{bit, count}
 use Rattle.rules.specs.Board.{Board}
 use Rattle.rules.specs.State.{State, caller}
 use Rattle.rules.specs.Lines.{Line, nowhere, waiters, senders, same, wait_line, in_line, line_length}

@@ -1,5 +1,6 @@
 -- The former Set is operations 24 and 23, in either order. A turn leaves a thread in its line, so that who stands behind it moves up as before;
 -- a counter that is filled twice is filled; and of two settlings the second decides. Assumes nothing.
+use Rattle.std.specs.Prelude.{if◌then◌else◌}
 use mathlib.Core.Bool.{Bool, true, false, not, ◌&&◌, and-false}
 use mathlib.Core.Path.{◌≡◌, refl, ap, sym, ◌∙◌}
 use mathlib.Core.List.{List}
@@ -11,7 +12,6 @@ use lib.Dec.{eqb}
 use lib.ListN.{length, set}
 use lib.Seq.{ext_get_or, set-get_or}
 use borrow.Author.Tests.{eq-eqb, ne_eqb, le-ltb}
-use Rattle.rules.specs.Basic.{if◌then◌else◌}
 use Rattle.rules.specs.Board.{Board, top_priority}
 use Rattle.rules.specs.State.{State, free, at, with_counter_of, is_ready, with_place, with_wait, with_priority, with_turn, with_threads, edit}
 use Rattle.rules.specs.Lines.{Line, same, line, in_line, line_length, move_up, filled, move, settle}

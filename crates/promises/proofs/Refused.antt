@@ -1,5 +1,6 @@
 -- A step answers the refusal that document 01's two tables name, and a refusal leaves the state as it was: each operation is a
 -- ladder of tests in the order of the first table, and each test is the second table's condition. Assumes nothing.
+use Rattle.std.specs.Prelude.{if◌then◌else◌}
 use mathlib.Core.Bool.{Bool, true, false, not, ◌&&◌, ◌||◌}
 use mathlib.Core.Path.{◌≡◌, refl}
 use mathlib.Core.Option.{Option, none, some}
@@ -9,7 +10,6 @@ use native.Mathlib.Decide.{ℕ_discrete}
 use lib.Dec.{eqb, leb, ltb}
 use borrow.Author.Tests.{leb-true, ne_eqb, lt-ltb}
 use lib.ListN.{length, get_or-eq_default}
-use Rattle.rules.specs.Basic.{if◌then◌else◌}
 use Rattle.rules.specs.State.{State, free, free_sem, at, sem_at}
 use Rattle.rules.specs.Lines.{waiters, same, wait_line, in_line}
 use Rattle.rules.specs.Waiting.{Step, refuse, accept, block, may_not_wait, never_wait, must_wait}

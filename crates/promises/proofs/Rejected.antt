@@ -14,7 +14,7 @@ use Rattle.rules.specs.Lines.{ready, in_line}
 use Rattle.rules.specs.Table.{decode}
 use Rattle.rules.specs.Answers.{refusal_code}
 use Rattle.rules.specs.Trace.{clean_area}
-use Rattle.rules.specs.Door.{Doored, serve_decoded, door, fresh, fresh_table, Handed, table_after}
+use Rattle.rules.specs.Door.{Doored, serve_decoded, door, fresh_table, Handed, table_after}
 use Rattle.rules.specs.declared.Refusal.{Refusal}
 use Rattle.rules.specs.declared.Thread.{Thread}
 use Rattle.rules.specs.declared.Request.{Request}

@@ -1,7 +1,7 @@
 -- Order 1's value, written down apart from the operations and by the bytes of the table, so that it can disagree with them.
 -- "A Send or Pend that answers 1 now gives as its value the number of threads already in that line. [..] Delay and Receive keep value 0."
-use Rattle.std.specs.Prelude.{Bool, ◌&&◌, List, ℕ, eqb, get_or}
-use Rattle.rules.specs.Basic.{if◌then◌else◌, count}
+use Rattle.std.specs.Prelude.{if◌then◌else◌, Bool, ◌&&◌, List, ℕ, eqb, get_or}
+use Rattle.rules.specs.Basic.{count}
 use Rattle.rules.specs.Board.{Board}
 use Rattle.rules.specs.Table.{rows}
 

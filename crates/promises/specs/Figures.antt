@@ -1,6 +1,6 @@
 -- Demand 3 in figures: what a closed run on the printer board gives for each of the demand's words.
-use Rattle.std.specs.Prelude.{Bool, ◌&&◌, List, [], ◌∷◌, map, ℕ, suc, eqb, take, drop}
-use Rattle.rules.specs.Basic.{if◌then◌else◌, count, all}
+use Rattle.std.specs.Prelude.{if◌then◌else◌, Bool, ◌&&◌, List, [], ◌∷◌, map, ℕ, suc, eqb, take, drop}
+use Rattle.rules.specs.Basic.{count, all}
 use Rattle.rules.specs.Board.{printer}
 use Rattle.rules.specs.Lines.{ready, in_line}
 use Rattle.rules.specs.Table.{decode}

@@ -1,7 +1,6 @@
 -- ORDER 8. "Set does two jobs. [..] Split it": wherever document 01's Set, the former operation 3, was accepted, operation 24 and then 23 are
 -- accepted and give what it gave; and so do 23 and then 24. Of the two, 23 with "the same priority changes nothing".
-use Rattle.std.specs.Prelude.{true, not, ◌&&◌, ◌≡◌, List, ℕ, ◌≤◌, eqb, length}
-use Rattle.rules.specs.Basic.{if◌then◌else◌}
+use Rattle.std.specs.Prelude.{if◌then◌else◌, true, not, ◌&&◌, ◌≡◌, List, ℕ, ◌≤◌, eqb, length}
 use Rattle.rules.specs.Board.{Board}
 use Rattle.rules.specs.State.{State, at, is_ready, with_priority, with_turn, edit}
 use Rattle.rules.specs.Lines.{filled, move}

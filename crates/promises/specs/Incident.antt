@@ -2,10 +2,9 @@
 -- ones, and a cutter of a higher rank breaks into the left lane's turn again and again. "A thread outranked by another keeps its place and
 -- counter." Here it goes to its line's tail instead, and what is left of its turn is gone: the left lane falls behind, or gets no tick at
 -- all, and its lines come late: only the odd seats fail at the gate. Such a rule does not meet demand 3.
-use Rattle.std.specs.Prelude.{Bool, true, ◌&&◌, ◌≡◌, ℕ, zero, suc, ltb}
+use Rattle.std.specs.Prelude.{if◌then◌else◌, Bool, true, ◌&&◌, ◌≡◌, ℕ, zero, suc, ltb}
 use mathlib.Core.List.{List, [], ◌∷◌, ◌++◌, map, flatten}
 use Prim.Native.String.{String}
-use Rattle.rules.specs.Basic.{if◌then◌else◌}
 use Rattle.rules.specs.Board.{printer}
 use Rattle.rules.specs.State.{State, at, caller, is_ready, with_threads}
 use Rattle.rules.specs.Lines.{move}

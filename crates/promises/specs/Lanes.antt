@@ -1,8 +1,8 @@
 -- ORDER 5, its claim: "Where demand 3 covers the run from the creation of the last of them, and all earlier charges to them are zero, and
 -- the count is a whole number of rounds, each of their lags is 0, and that is proved."
 -- The crate `lanes` says what an account and a lag are (specs/Lag.antt), and what the report prints of them (specs/Report.antt).
-use Rattle.std.specs.Prelude.{Bool, true, false, ◌≡◌, List, [], ◌∷◌, ◌++◌, ℕ, suc, ◌*◌, ◌%◌, eqb, ℤ, pos, negsuc, length, replicate, take, drop}
-use Rattle.rules.specs.Basic.{if◌then◌else◌, count, all}
+use Rattle.std.specs.Prelude.{if◌then◌else◌, Bool, true, false, ◌≡◌, List, [], ◌∷◌, ◌++◌, ℕ, suc, ◌*◌, ◌%◌, eqb, ℤ, pos, negsuc, length, replicate, take, drop}
+use Rattle.rules.specs.Basic.{count, all}
 use Rattle.rules.specs.Board.{Board, printer}
 use Rattle.rules.specs.State.{State}
 use Rattle.rules.specs.Lines.{ready, in_line}

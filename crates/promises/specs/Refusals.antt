@@ -1,8 +1,8 @@
 -- Document 01's two tables of refusals as the orders change them, written down apart from the operations, so that they can disagree with
 -- them.
-use Rattle.std.specs.Prelude.{Bool, false, not, ◌&&◌, ◌||◌, List, [], ◌∷◌, ℕ, ◌+◌, ◌-◌, eqb, leb, ltb, length}
+use Rattle.std.specs.Prelude.{if◌then◌else◌, Bool, false, not, ◌&&◌, ◌||◌, List, [], ◌∷◌, ℕ, ◌+◌, ◌-◌, eqb, leb, ltb, length}
 use Rattle.std.proofs.Math.Option.{Option, none, some}
-use Rattle.rules.specs.Basic.{if◌then◌else◌, count}
+use Rattle.rules.specs.Basic.{count}
 use Rattle.rules.specs.State.{State, at, sem_at, caller, delaying, pending}
 use Rattle.rules.specs.declared.Thread.{Thread}
 use Rattle.rules.specs.declared.Wait.{Wait}

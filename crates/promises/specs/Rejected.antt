@@ -1,8 +1,7 @@
 -- Document 01, "How tight the promises are": "Tried and rejected: a kernel that refuses everything and one that hands the table back
 -- (demand 2 shuts them out, and demand 3 as soon as two threads share a rank); one that answers 0 always (2); one that rotates only in
 -- the first round (2 and 3); one whose semaphore value is invented (2)." Each is a door here, and does not meet the demand named.
-use Rattle.std.specs.Prelude.{Bool, true, ◌&&◌, ◌≡◌, List, [], ◌∷◌, ℕ, eqb, ltb, pos, get_or}
-use Rattle.rules.specs.Basic.{if◌then◌else◌}
+use Rattle.std.specs.Prelude.{if◌then◌else◌, Bool, true, ◌&&◌, ◌≡◌, List, [], ◌∷◌, ℕ, eqb, ltb, pos, get_or}
 use Rattle.rules.specs.Board.{Board, printer}
 use Rattle.rules.specs.State.{State, caller, with_threads, edit}
 use Rattle.rules.specs.Lines.{filled}

@@ -1,6 +1,5 @@
 -- What stands at a place of a trace: a whole record, left-over bytes (1 to 11), or nothing.
-use Rattle.std.specs.Prelude.{List, ℕ, ◌-◌, ltb, leb, length}
-use Rattle.rules.specs.Basic.{if◌then◌else◌}
+use Rattle.std.specs.Prelude.{if◌then◌else◌, List, ℕ, ◌-◌, ltb, leb, length}
 use Rattle.rules.specs.Requests.{request_length}
 use Rattle.reader.specs.declared.Read.{Read}
 use Rattle.reader.specs.declared.Read.TheVariants.{Record, Short, End}

@@ -1,5 +1,6 @@
 -- The word of a list of threads in which one is changed: the others' word, with that thread's own bit. The others' word is the old one less the
 -- bit that goes with the thread, since only the line that it stood in can have lost its last member. Assumes nothing.
+use Rattle.std.specs.Prelude.{if◌then◌else◌}
 use mathlib.Core.Bool.{Bool, true, false, ◌&&◌, ◌||◌}
 use mathlib.Core.Path.{◌≡◌, refl, ap, sym, subst, ◌∙◌}
 use mathlib.Core.Logic.{◌≢◌}
@@ -14,7 +15,7 @@ use lib.Count.{count_leading_zeros, leading_top}
 use lib.Dec.{eqb, leb, ltb}
 use lib.ListN.{length, set, take, length-set}
 use lib.Seq.{get_or-set_same, get_or-set_other, set-get_or}
-use Rattle.rules.specs.Basic.{if◌then◌else◌, bit}
+use Rattle.rules.specs.Basic.{bit}
 use Rattle.rules.specs.Board.{top_priority}
 use Rattle.rules.specs.State.{State, free, at, is_ready, edit}
 use Rattle.rules.specs.Lines.{ready, line, in_line, line_length, leave, tail_place, has_member, bits_below, ready_word}

@@ -1,7 +1,6 @@
 -- Which bit of the ready word is a thread's, and what becomes of the word when a thread goes from one line to another.
-use Rattle.std.specs.Prelude.{◌&&◌, ◌≡◌, List, ℕ, ◌-◌, ◌^◌, ◌≤◌, eqb, leb}
+use Rattle.std.specs.Prelude.{if◌then◌else◌, ◌&&◌, ◌≡◌, List, ℕ, ◌-◌, ◌^◌, ◌≤◌, eqb, leb}
 use Rattle.std.specs.Int.Bits.{bit_or}
-use Rattle.rules.specs.Basic.{if◌then◌else◌}
 use Rattle.rules.specs.Board.{top_priority}
 use Rattle.rules.specs.State.{at, is_ready}
 use Rattle.rules.specs.Lines.{tail_place, ready_word}

@@ -1,5 +1,6 @@
 -- What is served goes on as the input does: the bytes that are held and those that a read put behind them are the first of the block, and what
 -- is left over of them is held next. At the end the report of the table and of the accounts is the report of all that came. Assumes nothing.
+use Rattle.std.specs.Prelude.{if◌then◌else◌}
 use mathlib.Core.Path.{◌≡◌, refl, sym, ap, subst, ◌∙◌}
 use mathlib.Core.List.{List, [], ◌++◌, map}
 use Prim.Native.Nat.{ℕ, ◌+◌, ◌-◌, ◌*◌, ◌/◌, ◌≤◌}
@@ -8,7 +9,6 @@ use lib.Dec.{ltb, leb}
 use borrow.Author.Tests.{leb-true, leb-false, lt-ltb, le-ltb}
 use lib.ListN.{length, take, drop, length-append, length-drop}
 use lib.Seq.{sets, drop-drop, drop-append-le, length-take-le}
-use Rattle.rules.specs.Basic.{if◌then◌else◌}
 use Rattle.rules.specs.Board.{printer}
 use Rattle.rules.specs.Requests.{request_length}
 use Rattle.rules.specs.Sound.{Sound}

@@ -1,5 +1,6 @@
 -- A record asks a request exactly when it has 12 bytes, byte 3 is zero, an operation has its number and each field is used or
 -- zero: these are the decoder's tests, one by one. Assumes nothing.
+use Rattle.std.specs.Prelude.{if◌then◌else◌}
 use mathlib.Core.Path.{◌≡◌, refl}
 use mathlib.Core.Bool.{Bool, true, false, ◌&&◌}
 use mathlib.Core.List.{List}
@@ -9,7 +10,6 @@ use native.Mathlib.Omega.{arith}
 use lib.Dec.{eqb}
 use lib.ListN.{length, get_or}
 use borrow.Author.Tests.{eqb-true, eq-eqb}
-use Rattle.rules.specs.Basic.{if◌then◌else◌}
 use Rattle.rules.specs.Table.{word_at}
 use Rattle.rules.specs.Requests.{Operation, operation_of, request_length, kept, asked_by, request_of, decode_request}
 use Rattle.rules.specs.declared.Request.{Request}

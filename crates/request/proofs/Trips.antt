@@ -1,5 +1,6 @@
 -- A record that asks a request is the one that the request is written as: each of its bytes is that of a field, an unused field is zero,
 -- and the request holds the others. Assumes nothing.
+use Rattle.std.specs.Prelude.{if◌then◌else◌}
 use mathlib.Core.Path.{◌≡◌, refl, sym, ap, ◌∙◌}
 use mathlib.Core.Bool.{Bool, true, false}
 use mathlib.Core.List.{List, [], ◌∷◌}
@@ -8,7 +9,6 @@ use Prim.Native.Nat.{ℕ, zero, suc, ◌+◌}
 use native.Mathlib.Omega.{arith}
 use lib.ListN.{length, get_or}
 use borrow.Author.Tests.{eqb-true}
-use Rattle.rules.specs.Basic.{if◌then◌else◌}
 use Rattle.rules.specs.Table.{word_at}
 use Rattle.rules.specs.Requests.{Operation, operations, request_length, kept, decode_request}
 use Rattle.rules.specs.declared.Request.{Request}

@@ -1,8 +1,7 @@
 // A request record of 12 bytes, decoded to the request that it asks.
 #![tactic(auto)]
 
-ghost use Rattle.std.specs.Prelude.{◌≡◌};
-ghost use Rattle.rules.specs.Basic.{if◌then◌else◌};
+ghost use Rattle.std.specs.Prelude.{if◌then◌else◌, ◌≡◌};
 ghost use Rattle.rules.specs.Requests.{request_of, decode_request};
 
 use rules::{Decoded, Request};

@@ -1,6 +1,5 @@
 -- The door: for every table, record and answer area, whatever their lengths and bytes, the code, the table and the area after it.
-use Rattle.std.specs.Prelude.{◌&&◌, List, [], ◌∷◌, ℕ, pred, eqb, ℤ, length, replicate}
-use Rattle.rules.specs.Basic.{if◌then◌else◌}
+use Rattle.std.specs.Prelude.{if◌then◌else◌, ◌&&◌, List, [], ◌∷◌, ℕ, pred, eqb, ℤ, length, replicate}
 use Rattle.rules.specs.Board.{Board}
 use Rattle.rules.specs.State.{State, free, free_sem, with_place, with_counter}
 use Rattle.rules.specs.Table.{encode, decode}

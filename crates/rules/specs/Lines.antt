@@ -1,7 +1,7 @@
 -- Lines: which line a thread stands in, who is first, and what becomes of the places when one leaves or joins.
 -- A thread's own record says which line it stands in; there are no lists of lines.
-use Rattle.std.specs.Prelude.{Bool, false, ◌&&◌, List, map, ℕ, zero, suc, pred, ◌+◌, ◌^◌, eqb, ltb, length}
-use Rattle.rules.specs.Basic.{if◌then◌else◌, count, find}
+use Rattle.std.specs.Prelude.{if◌then◌else◌, Bool, false, ◌&&◌, List, map, ℕ, zero, suc, pred, ◌+◌, ◌^◌, eqb, ltb, length}
+use Rattle.rules.specs.Basic.{count, find}
 use Rattle.rules.specs.Board.{top_priority}
 use Rattle.rules.specs.State.{State, at, edit, is_ready, with_place, with_counter, with_running}
 use Rattle.rules.specs.declared.Thread.{Thread}

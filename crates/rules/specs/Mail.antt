@@ -1,6 +1,5 @@
 -- Mailboxes: Send, Send from interrupt, Receive.
-use Rattle.std.specs.Prelude.{true, false, ◌||◌, List, ℕ, eqb, ltb}
-use Rattle.rules.specs.Basic.{if◌then◌else◌}
+use Rattle.std.specs.Prelude.{if◌then◌else◌, true, false, ◌||◌, List, ℕ, eqb, ltb}
 use Rattle.rules.specs.State.{State, at, caller, receiving, with_mail, with_threads, edit}
 use Rattle.rules.specs.Lines.{senders, line_length, first}
 use Rattle.rules.specs.Waiting.{Step, refuse, accept, accept_threads, end_wait, must_wait}

@@ -1,7 +1,6 @@
 -- "Requests: records of 12 bytes, no header. Byte 0 operation; 1 object; 2 priority; 3 zero; 4-7 number; 8-11 data."
-use Rattle.std.specs.Prelude.{Bool, true, false, ◌&&◌, ◌||◌, List, [], ◌∷◌, ℕ, pred, eqb, length, get_or, replicate}
+use Rattle.std.specs.Prelude.{if◌then◌else◌, Bool, true, false, ◌&&◌, ◌||◌, List, [], ◌∷◌, ℕ, pred, eqb, length, get_or, replicate}
 use Rattle.std.proofs.Math.Option.{Option, none, some}
-use Rattle.rules.specs.Basic.{if◌then◌else◌}
 use Rattle.rules.specs.Table.{word_at}
 use Rattle.rules.specs.declared.Request.{Request}
 use Rattle.rules.specs.declared.Request.TheVariants as Ask

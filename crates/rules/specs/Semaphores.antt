@@ -1,6 +1,5 @@
 -- Semaphores: Make, Drop, Pend, Abort, Post, Post from interrupt.
-use Rattle.std.specs.Prelude.{Bool, true, not, ◌||◌, ℕ, pred, ◌+◌, ◌-◌, min, eqb, leb, ltb, length, set}
-use Rattle.rules.specs.Basic.{if◌then◌else◌}
+use Rattle.std.specs.Prelude.{if◌then◌else◌, Bool, true, not, ◌||◌, ℕ, pred, ◌+◌, ◌-◌, min, eqb, leb, ltb, length, set}
 use Rattle.rules.specs.Board.{most_count}
 use Rattle.rules.specs.State.{State, free_sem, sem_at, pending, with_threads, with_sems}
 use Rattle.rules.specs.Lines.{waiters, line_length}

@@ -1,6 +1,5 @@
 -- ORDER 7: "The battery printer stops its timer between tickets." Many ticks at once, and the nearest end of a wait.
-use Rattle.std.specs.Prelude.{List, [], ◌∷◌, ℕ, zero, suc, min, eqb}
-use Rattle.rules.specs.Basic.{if◌then◌else◌}
+use Rattle.std.specs.Prelude.{if◌then◌else◌, List, [], ◌∷◌, ℕ, zero, suc, min, eqb}
 use Rattle.rules.specs.State.{State, counter_of, waiting}
 use Rattle.rules.specs.Waiting.{Step, refuse}
 use Rattle.rules.specs.Threads.{bad_ticks}

@@ -1,7 +1,7 @@
 -- The table: "25 records of 24 bytes, no header. Records 0 to 15 are threads, 16 to 23 semaphores, 24 the kernel.
 -- Wide fields are little-endian."
-use Rattle.std.specs.Prelude.{Bool, List, [], ◌∷◌, ◌++◌, map, ℕ, ◌+◌, ◌*◌, ◌/◌, ◌%◌, eqb, get_or, drop, replicate}
-use Rattle.rules.specs.Basic.{if◌then◌else◌, bit, pieces}
+use Rattle.std.specs.Prelude.{if◌then◌else◌, Bool, List, [], ◌∷◌, ◌++◌, map, ℕ, ◌+◌, ◌*◌, ◌/◌, ◌%◌, eqb, get_or, drop, replicate}
+use Rattle.rules.specs.Basic.{bit, pieces}
 use Rattle.rules.specs.Board.{Board, record_length}
 use Rattle.rules.specs.State.{State, counter_of}
 use Rattle.rules.specs.Lines.{ready_word}

@@ -1,6 +1,6 @@
 -- Soundness as a test that computes. `Sound` says the same for a reader.
-use Rattle.std.specs.Prelude.{Bool, true, false, not, ◌&&◌, ◌||◌, List, ℕ, eqb, leb, ltb, length}
-use Rattle.rules.specs.Basic.{if◌then◌else◌, count, all, all_below, same_bytes}
+use Rattle.std.specs.Prelude.{if◌then◌else◌, Bool, true, false, not, ◌&&◌, ◌||◌, List, ℕ, eqb, leb, ltb, length}
+use Rattle.rules.specs.Basic.{count, all, all_below, same_bytes}
 use Rattle.rules.specs.Board.{Board, table_length, top_priority, most_ticks, most_count, most_lock}
 use Rattle.rules.specs.State.{State, at, sem_at, caller, counter_of, waiting, sending, is_ready}
 use Rattle.rules.specs.Lines.{Line, nowhere, ready, waiters, senders, line, in_line, line_length}

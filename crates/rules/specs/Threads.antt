@@ -1,6 +1,5 @@
 -- Threads: Yield, Create, Delete, Suspend, Resume, Delay, Cancel, Set priority, Set turn.
-use Rattle.std.specs.Prelude.{Bool, true, false, not, ◌&&◌, ◌||◌, List, ℕ, eqb, leb, ltb, length}
-use Rattle.rules.specs.Basic.{if◌then◌else◌}
+use Rattle.std.specs.Prelude.{if◌then◌else◌, Bool, true, false, not, ◌&&◌, ◌||◌, List, ℕ, eqb, leb, ltb, length}
 use Rattle.rules.specs.Board.{top_priority, most_ticks}
 use Rattle.rules.specs.State.{State, free, at, waiting, delaying, is_ready, with_wait, with_suspended, with_priority, with_turn, edit}
 use Rattle.rules.specs.Lines.{senders, line_length, filled, move}

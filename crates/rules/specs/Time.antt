@@ -1,6 +1,5 @@
 -- The scheduler lock, the tick, and Outcome.
-use Rattle.std.specs.Prelude.{not, ◌||◌, List, ℕ, zero, suc, pred, eqb, leb, length}
-use Rattle.rules.specs.Basic.{if◌then◌else◌}
+use Rattle.std.specs.Prelude.{if◌then◌else◌, not, ◌||◌, List, ℕ, zero, suc, pred, eqb, leb, length}
 use Rattle.rules.specs.Board.{most_lock}
 use Rattle.rules.specs.State.{State, at, counter_of, waiting, with_counter, with_lock, edit}
 use Rattle.rules.specs.Lines.{move}

@@ -1,6 +1,6 @@
 -- The trace: what the trace program prints of its input, line by line.
-use Rattle.std.specs.Prelude.{List, [], ◌∷◌, ◌++◌, ℕ, suc, ◌/◌, ◌%◌, eqb, ℤ, length, replicate}
-use Rattle.rules.specs.Basic.{if◌then◌else◌, pieces}
+use Rattle.std.specs.Prelude.{if◌then◌else◌, List, [], ◌∷◌, ◌++◌, ℕ, suc, ◌/◌, ◌%◌, eqb, ℤ, length, replicate}
+use Rattle.rules.specs.Basic.{pieces}
 use Rattle.rules.specs.Board.{Board}
 use Rattle.rules.specs.Table.{word_at, decode}
 use Rattle.rules.specs.Answers.{area_length}

@@ -1,6 +1,5 @@
 -- How a step ends, and how a wait begins and ends.
-use Rattle.std.specs.Prelude.{Bool, ◌||◌, List, ℕ, zero, suc, eqb, ltb}
-use Rattle.rules.specs.Basic.{if◌then◌else◌}
+use Rattle.std.specs.Prelude.{if◌then◌else◌, Bool, ◌||◌, List, ℕ, zero, suc, eqb, ltb}
 use Rattle.rules.specs.Board.{most_ticks}
 use Rattle.rules.specs.State.{State, caller, with_wait, with_outcome, with_threads}
 use Rattle.rules.specs.Lines.{Line, line, line_length, first, move, settle}

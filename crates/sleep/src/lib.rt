@@ -4,8 +4,7 @@
 // that runs, or of a turn that goes on. `leaps/specs` says what a leap is, and that it is as many single ticks.
 #![tactic(auto)]
 
-ghost use Rattle.std.specs.Prelude.{◌≡◌, ◌-◌, ◌≤◌, ◌<◌, min};
-ghost use Rattle.rules.specs.Basic.{if◌then◌else◌};
+ghost use Rattle.std.specs.Prelude.{if◌then◌else◌, ◌≡◌, ◌-◌, ◌≤◌, ◌<◌, min};
 ghost use Rattle.rules.specs.State.{State, at, edit, caller, counter_of};
 ghost use Rattle.rules.specs.Lines.{ready, in_line};
 ghost use Rattle.rules.specs.Sound.{Sound};

@@ -1,6 +1,5 @@
 -- What the test of a table finds out, in the order in which it asks.
-use Rattle.std.specs.Prelude.{Bool, true, false, not, ◌&&◌, ◌||◌, ◌≡◌, List, ℕ, ◌+◌, ◌*◌, ◌≤◌, ◌<◌, eqb, leb, length, get_or}
-use Rattle.rules.specs.Basic.{if◌then◌else◌}
+use Rattle.std.specs.Prelude.{if◌then◌else◌, Bool, true, false, not, ◌&&◌, ◌||◌, ◌≡◌, List, ℕ, ◌+◌, ◌*◌, ◌≤◌, ◌<◌, eqb, leb, length, get_or}
 use Rattle.rules.specs.Board.{record_length, top_priority, most_ticks}
 use Rattle.rules.specs.State.{State, at, sem_at, waiting, sending}
 use Rattle.rules.specs.Lines.{line, ready_word}

@@ -1,6 +1,5 @@
 // Is a thread's record sound that is in use? The places of the lines apart, which no record alone says.
-ghost use Rattle.std.specs.Prelude.{◌≡◌, not, ◌&&◌, ◌||◌, eqb, leb};
-ghost use Rattle.rules.specs.Basic.{if◌then◌else◌};
+ghost use Rattle.std.specs.Prelude.{if◌then◌else◌, ◌≡◌, not, ◌&&◌, ◌||◌, eqb, leb};
 ghost use Rattle.rules.specs.Board.{top_priority, most_ticks};
 ghost use Rattle.rules.specs.State.{State, at, sem_at};
 ghost use Rattle.rules.specs.Test.{is_done, is_none_yet, counter_ok, object_ok, used_ok};

@@ -1,9 +1,6 @@
 -- What the functions over the trace reader promise is tight. Assumes nothing.
 use mathlib.Core.Path.{◌≡◌, refl, sym, ◌∙◌}
 use Rattle.reader.specs.Reading.{read_at}
-use Rattle.reader.specs.contracts.new as new
-use Rattle.reader.specs.contracts.moved as moved
-use Rattle.reader.specs.contracts.next as next
 use Rattle.tight.specs.Readers.{Readers}
 
 pub readers : Readers

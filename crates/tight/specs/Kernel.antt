@@ -8,7 +8,7 @@ use prog.Routine.{Routine}
 use types.Logic.{Logic}
 use contract.Lifetimes.{Lfts}
 use contract.Monad.{Fun, fact}
-use Rattle.std.specs.Borrow.{Bor}
+use Rattle.std.specs.Borrow.{Bor, MutBor}
 use denote.Triple.Clauses.{at_exit}
 use denote.Triple.Entry.{Args}
 use Rattle.rules.specs.Board.{printer}
@@ -39,9 +39,9 @@ use Rattle.lateness.specs.Lags.{LagBoundIn}
 -- a table, a record and an area, lent for as long as the call takes
 pub record Lent : Type 0 where
   pub lifetimes : Lfts 3
-  pub table : Bor (List ℕ)
+  pub table : MutBor (List ℕ)
   pub request : Bor (List ℕ)
-  pub area : Bor (List ℕ)
+  pub area : MutBor (List ℕ)
 
 -- the code that is given back, and the last bytes of table and area, are those that the rules say
 abbrev pub Allowed : Lent → Doored → Type 0

@@ -1,5 +1,6 @@
 -- The fields that an operation takes: those of a line, each read by a flag that the operation tells, and those of a record. The table of operations is
 -- asked, and never looked into. Assumes nothing.
+use Rattle.std.specs.Prelude.{if◌then◌else◌}
 use mathlib.Core.Path.{◌≡◌, refl, sym, ap, ◌∙◌}
 use mathlib.Core.Bool.{Bool, true, false, not, ◌&&◌}
 use mathlib.Core.List.{List, [], ◌∷◌, ◌++◌, append_assoc}
@@ -8,7 +9,6 @@ use Prim.Native.Nat.{ℕ, ◌≤◌}
 use native.Mathlib.Omega.{arith}
 use lib.ListN.{length, get_or, drop, drop_of_length-le}
 use lib.Seq.{drop-cons}
-use Rattle.rules.specs.Basic.{if◌then◌else◌}
 use Rattle.rules.specs.Table.{word_at}
 use Rattle.rules.specs.Requests.{Operation, operation_of, kept, asked_by, request_of, decode_request}
 use Rattle.rules.specs.declared.Request.{Request}

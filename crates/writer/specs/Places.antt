@@ -1,7 +1,7 @@
 -- What the code answers of a line, by places in it: a number and the place after it, and the fields of the record.
-use Rattle.std.specs.Prelude.{Bool, true, false, not, List, [], ◌∷◌, ◌++◌, ◌≡◌, ℕ, suc, ◌+◌, ◌*◌, ◌-◌, ◌≤◌, min, eqb, leb, length, take, drop}
+use Rattle.std.specs.Prelude.{if◌then◌else◌, Bool, true, false, not, List, [], ◌∷◌, ◌++◌, ◌≡◌, ℕ, suc, ◌+◌, ◌*◌, ◌-◌, ◌≤◌, min, eqb, leb, length, take, drop}
 use Rattle.std.proofs.Math.Option.{Option, none, some}
-use Rattle.rules.specs.Basic.{if◌then◌else◌, find}
+use Rattle.rules.specs.Basic.{find}
 use Rattle.rules.specs.Requests.{operation_of, request_of}
 use Rattle.request.specs.Written.{record_bytes}
 use Rattle.listing.specs.Line.{Front, ◌and_then◌, most_word, field_text, fields_from, refused, number_from, field_from}

@@ -10,6 +10,8 @@ use crate::{files, text, top};
 /// A line of crates.txt.
 pub struct Crate {
     pub name: String,
+    /// A static library: C calls it, and no other crate can.
+    pub is_for_c: bool,
     /// What it declares to depend on; the kit's own crates are among it.
     pub needs: Vec<String>,
 }
@@ -26,9 +28,13 @@ fn read(list: &str) -> Vec<Crate> {
         .map(|line| line.split('#').next().unwrap_or_default());
     let parts = lines.filter_map(|line| line.split_once(':'));
     parts
-        .map(|(name, needs)| Crate {
-            name: name.trim().to_string(),
-            needs: needs.split_whitespace().map(String::from).collect(),
+        .filter_map(|(head, needs)| {
+            let mut words = head.split_whitespace();
+            Some(Crate {
+                name: words.next()?.to_string(),
+                is_for_c: words.any(|word| word == "staticlib"),
+                needs: needs.split_whitespace().map(String::from).collect(),
+            })
         })
         .collect()
 }
@@ -44,16 +50,22 @@ fn substance(name: &str) -> Vec<String> {
     lines.filter(|line| !is_comment(line)).collect()
 }
 
-/// Does a line name the other crate, as `Rattle·NAME` or as `NAME::`?
+/// Does a line name the other crate, as `Rattle.NAME` or as `NAME::`?
 fn names(line: &str, other: &str) -> bool {
-    let in_antt = line
-        .split("Rattle·")
-        .skip(1)
+    let is_whole = |before: &str| {
+        !before.ends_with(|c: char| c.is_alphanumeric() || c == '_' || c == ':' || c == '.')
+    };
+    let begins = |head: &str| {
+        let places = line.match_indices(head);
+        let whole = places.filter(|(at, _)| is_whole(&line[..*at]));
+        whole
+            .map(|(at, _)| &line[at + head.len()..])
+            .collect::<Vec<_>>()
+    };
+    let in_antt = begins("Rattle.")
+        .into_iter()
         .any(|rest| identifier(rest) == other);
-    let in_rattle = line.split(&format!("{other}::")).collect::<Vec<_>>();
-    let is_whole =
-        |before: &&str| !before.ends_with(|c: char| c.is_alphanumeric() || c == '_' || c == ':');
-    in_antt || in_rattle[..in_rattle.len() - 1].iter().any(is_whole)
+    in_antt || !begins(&format!("{other}::")).is_empty()
 }
 
 /// What a crate declares to depend on, and names nowhere.
@@ -210,20 +222,27 @@ mod tests {
 
     #[test]
     fn a_crate_stands_above_all_that_it_needs_in_any_order() {
-        let parts = read("# a comment\ntop: mid low io   # behind\nmid: low\nlow:\n");
+        let parts = read("# a comment\ntop staticlib: mid low io   # behind\nmid: low\nlow:\n");
         let places = places(&parts);
         let heights: Vec<usize> = ["low", "mid", "top"]
             .map(|name| places[name].height)
             .to_vec();
         assert_eq!(heights, [0, 1, 2]);
         assert_eq!(needs(&parts[0], &parts), ["mid", "low"]);
+        assert_eq!(
+            parts.iter().map(|part| part.is_for_c).collect::<Vec<_>>(),
+            [true, false, false]
+        );
     }
 
     #[test]
     fn a_crate_is_named_by_its_whole_name() {
-        assert!(names("use Rattle·mail·specs.specs.Post", "mail"));
+        assert!(names("ghost use Rattle.mail.specs.Post.{Post};", "mail"));
+        assert!(names("(Rattle.mail.specs.Post.Post)", "mail"));
         assert!(names("    mail::send(t)", "mail"));
-        assert!(!names("use Rattle·mailbox.specs", "mail"));
+        assert!(!names("use Rattle.mailbox.specs", "mail"));
+        assert!(!names("use Rattle.rules.specs.mail", "mail"));
+        assert!(!names("use Other.Rattle.mail", "mail"));
         assert!(!names("    email::send(t)", "mail"));
         assert!(!names("    rules::mail::send(t)", "mail"));
     }

@@ -23,7 +23,11 @@ pub fn text(path: impl AsRef<Path>) -> String {
         .unwrap_or_else(|error| panic!("{}: {error}", path.display()))
 }
 
-/// The files below a folder whose names end so, by their paths from the top and in order. A folder that is not there has none.
+/// What rt makes of a crate, beside its sources and with copies of them: no source.
+const MADE: &str = "out";
+
+/// The files below a folder whose names end so, by their paths from the top and in order. A folder that is not there has none, and what
+/// rt made is left out.
 pub fn files(folder: impl AsRef<Path>, endings: &[&str]) -> Vec<PathBuf> {
     let Ok(entries) = fs::read_dir(top().join(&folder)) else {
         return Vec::new();
@@ -33,7 +37,9 @@ pub fn files(folder: impl AsRef<Path>, endings: &[&str]) -> Vec<PathBuf> {
         let entry = entry.expect("a folder can be listed");
         let path = folder.as_ref().join(entry.file_name());
         if top().join(&path).is_dir() {
-            found.extend(files(&path, endings));
+            if entry.file_name() != MADE {
+                found.extend(files(&path, endings));
+            }
         } else if endings
             .iter()
             .any(|end| path.to_string_lossy().ends_with(end))

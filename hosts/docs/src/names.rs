@@ -188,13 +188,13 @@ mod tests {
     fn antt_declares_definitions_fields_and_constructors_and_no_more() {
         let source = "\
 -- other : Type
-use mathlib.Core.Path.{_≡_}
+use Rattle.std.specs.Prelude.{◌≡◌}
 pub data Line : Type 0 where
   nowhere : Line
   ready waiters : ℕ → Line
 pub record On (b : Board) : Type 0 where
   -- gone : ℕ
-  pub sems : length (s .sems) ≡ b .sems
+  pub sems : length s.sems ≡ b.sems
       → (deep : ℕ) → wrapped : ℕ
 abbrev pub same : Line → Bool
 same nowhere = false

@@ -122,8 +122,8 @@ mod tests {
             "PREFIX/include/speltmallet.h",
             "https://example.org/a.md",
             "mail.rs::send",
-            "rt dev NAME",
-            "tooMany",
+            "rt check NAME",
+            "too_many",
         ] {
             assert!(!is_path(name), "{name}");
         }

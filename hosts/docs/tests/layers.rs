@@ -28,7 +28,7 @@ fn every_dependency_that_is_declared_is_used() {
             let name = &part.name;
             let unused = unused(part).into_iter();
             unused.map(move |need| {
-                format!("crates.txt: {name} declares {need}, and nothing in crates/{name} names Rattle·{need} or {need}::")
+                format!("crates.txt: {name} declares {need}, and nothing in crates/{name} names Rattle.{need} or {need}::")
             })
         })
         .collect();

@@ -66,6 +66,17 @@ fn every_relative_link_leads_to_a_file() {
 }
 
 #[test]
+fn the_readme_names_the_kit_that_the_file_kit_names() {
+    let kit = text("KIT");
+    let name = kit.split_whitespace().next().expect("KIT names a kit");
+    let readme = text("README.md");
+    assert!(
+        readme.contains(&format!("proved with `{name}`")),
+        "README.md does not say that this is proved with `{name}`, which the file KIT names"
+    );
+}
+
+#[test]
 fn the_documents_are_found() {
     let found = documents();
     for known in [

@@ -1,8 +1,9 @@
 //! crates/tight/specs/ has a theorem for every function that another crate can call, that the function's own promise is tight, and none
-//! for a function that is no longer there. Crates that read and write are left out: which bytes a read gives is in no contract.
+//! for a function that is no longer there. Crates that read and write are left out: which bytes a read gives is in no contract. So is what
+//! only C can call; `exported.rs` holds that to the functions that it passes on.
 
 use std::collections::{BTreeMap, BTreeSet};
-use std::path::PathBuf;
+use std::path::{Path, PathBuf};
 
 use docs::layers::crates;
 use docs::public::functions;
@@ -18,17 +19,22 @@ struct Theorem {
     about: BTreeSet<String>,
 }
 
-/// What a function's modules of proofs call its promise: a theorem about a function speaks of one of these.
+/// What a function's modules call its promise: a theorem about a function speaks of one of these.
 const PROMISE: [&str; 2] = ["Post", "clauses"];
 
-/// The function that a module of proofs belongs to: `Rattle·threads.proofs.refusals.bad_ticks.Reads` is `threads::refusals::bad_ticks`.
+/// Where a crate has the modules of a function.
+const MODULES: [&str; 2] = [".proofs.", ".specs.contracts."];
+
+/// The function that a module belongs to: `Rattle.threads.proofs.refusals.bad_ticks.Reads` is `threads::refusals::bad_ticks`, and so is
+/// `Rattle.threads.specs.contracts.refusals.bad_ticks`.
 fn function(module: &str) -> Option<String> {
-    let (name, path) = module.strip_prefix("Rattle·")?.split_once(".proofs.")?;
+    let module = module.strip_prefix("Rattle.")?;
+    let (name, path) = MODULES.iter().find_map(|at| module.split_once(at))?;
     let path = path.strip_suffix(".Reads").unwrap_or(path);
     Some(format!("{name}::{}", path.replace('.', "::")))
 }
 
-/// A module's whole path: `words.put_word.Reads` is `Rattle·words.proofs.put_word.Reads` where `words` stands for `Rattle·words.proofs`.
+/// A module's whole path: `words.put_word.Reads` is `Rattle.words.proofs.put_word.Reads` where `words` stands for `Rattle.words.proofs`.
 fn whole(modules: &BTreeMap<String, String>, head: &str) -> String {
     let (first, rest) = head.split_once('.').unwrap_or((head, ""));
     match modules.get(first) {
@@ -88,12 +94,29 @@ fn all_theorems() -> Vec<Theorem> {
     specs.iter().flat_map(theorems).collect()
 }
 
-/// The crates that stand on the kit's own crate of C's functions, through others too. In crates.txt a crate stands behind those that it needs.
+/// By these words a crate's code reaches what is outside of it.
+const OUTSIDE: [&str; 3] = ["std::io", "HostRuntime", "libc"];
+
+/// Does a crate's own code read or write?
+fn reaches_outside(name: &str) -> bool {
+    let sources = files(Path::new("crates").join(name).join("src"), &[".rt"]);
+    sources.iter().any(|path| {
+        let source = text(path);
+        let mut code = source
+            .lines()
+            .map(|line| line.split("//").next().unwrap_or(""));
+        code.any(|line| OUTSIDE.iter().any(|word| line.contains(word)))
+    })
+}
+
+/// The crates that read and write, by their own code or by that of crates that they stand on. In crates.txt a crate stands behind those
+/// that it needs.
 fn reading_and_writing() -> BTreeSet<&'static str> {
-    let mut found = BTreeSet::from(["libc"]);
+    let mut found = BTreeSet::new();
     for part in crates() {
-        if part.needs.iter().any(|need| found.contains(need.as_str())) {
-            found.insert(&part.name);
+        let is_above = part.needs.iter().any(|need| found.contains(need.as_str()));
+        if is_above || reaches_outside(&part.name) {
+            found.insert(part.name.as_str());
         }
     }
     found
@@ -103,7 +126,7 @@ fn public() -> BTreeSet<String> {
     let left_out = reading_and_writing();
     let all = crates()
         .iter()
-        .filter(|part| !left_out.contains(part.name.as_str()));
+        .filter(|part| !part.is_for_c && !left_out.contains(part.name.as_str()));
     let paths = all.flat_map(|part| {
         functions(&part.name)
             .into_iter()
@@ -174,8 +197,6 @@ fn every_record_of_theorems_is_proved() {
 #[test]
 fn the_crates_that_read_and_write_are_few() {
     let all = reading_and_writing();
-    let expected = [
-        "exchange", "libc", "list", "report", "streams", "trace", "write",
-    ];
+    let expected = ["exchange", "list", "report", "streams", "trace", "write"];
     assert_eq!(all, BTreeSet::from(expected));
 }

@@ -1,4 +1,4 @@
-//! The two doors: the rules', which is the model's, and `sendsBack` of Incident.antt over it, stated again on the table's bytes.
+//! The two doors: the rules', which is the model's, and `sends_back` of Incident.antt over it, stated again on the table's bytes.
 
 use model::{at, door, wait, word, AREA, TABLE, THREADS, WIDTH};
 
@@ -58,7 +58,7 @@ impl Board {
         (code, is_sent.then(|| self.send_back(before)))
     }
 
-    /// `brokenOff`: the thread that was running "is still ready, and outranked by the one that runs now".
+    /// `broken_off`: the thread that was running "is still ready, and outranked by the one that runs now".
     fn broken_off(&self, before: usize) -> bool {
         let rank = self.record(before)[at::PRIORITY];
         self.is_ready(before, rank) && rank < self.record(self.running())[at::PRIORITY]

@@ -15,14 +15,14 @@ pub const RANK: u8 = 5;
 /// The definitions that this program states again, each clause on a line of its own.
 const STATED_AGAIN: [(&str, &str); 5] = [
     (
-        "brokenOff",
-        "brokenOff before after = let t = at (after .threads) (before .running) in isReady t && ltb (t .priority) (caller after .priority)",
+        "broken_off",
+        "broken_off before after = let t = at after.threads before.running in is_ready t && ltb t.priority (caller after).priority",
     ),
     (
-        "sendsBack",
-        "sendsBack t r a = let d = door printer t r a in let before = decode printer t in let after = decode printer (d .table) in \
-         let sent = withThreads (move (before .running) (λ t. t) (after .threads)) after in \
-         record { code = d .code; table = if brokenOff before after then encode sent else d .table; area = d .area }",
+        "sends_back",
+        "sends_back t r a = let d = door printer t r a in let before = decode printer t in let after = decode printer d.table in \
+         let sent = with_threads (move before.running (λ t. t) after.threads) after in \
+         record { code = d.code; table = if broken_off before after then encode sent else d.table; area = d.area }",
     ),
     ("again", "again zero rs = []\nagain (suc n) rs = rs ++ again n rs"),
     (
@@ -30,8 +30,8 @@ const STATED_AGAIN: [(&str, &str); 5] = [
         "counted d rs from steps = figures d 5 (record { table = lanes; handed = asks rs; from = from; steps = steps })",
     ),
     (
-        "lanesGet",
-        "lanesGet n l r = record { sound = true; same = true; quiet = true; charged = n; turns = 4; \
+        "lanes_get",
+        "lanes_get n l r = record { sound = true; same = true; quiet = true; charged = n; turns = 4; \
          shares = share left 2 l ∷ share right 2 r ∷ [] }",
     ),
 ];
@@ -39,7 +39,7 @@ const STATED_AGAIN: [(&str, &str); 5] = [
 /// A request, as its record of 12 bytes.
 pub type Record = [u8; RECORD];
 
-/// Whose rule a run follows: `door printer`, or `sendsBack`.
+/// Whose rule a run follows: `door printer`, or `sends_back`.
 #[derive(Clone, Copy, Debug, PartialEq, Eq)]
 pub enum Rule {
     Rules,

@@ -51,7 +51,7 @@ impl Source<'_> {
 
     /// The requests that make the table at the start.
     pub fn lanes(&self) -> Result<Vec<Record>, String> {
-        let beginning = "lanes = tableAfter printer (freshTable printer) (asks";
+        let beginning = "lanes = table_after printer (fresh_table printer) (asks";
         let mut words = self.behind("lanes", beginning)?;
         let requests = words.list()?;
         words.expect(")")?;
@@ -82,7 +82,7 @@ impl Source<'_> {
         }
     }
 
-    /// `NAME : counted DOOR (RUN TIMES) FROM STEPS ≡ lanesGet CHARGED LEFT RIGHT`
+    /// `NAME : counted DOOR (RUN TIMES) FROM STEPS ≡ lanes_get CHARGED LEFT RIGHT`
     fn claim(&self, field: &str) -> Result<Claim, String> {
         let mut words = Words::of(self, "OnlyTheOddSeats", field);
         let name = words.next()?;
@@ -95,7 +95,7 @@ impl Source<'_> {
         words.expect(")")?;
         let (from, steps) = (words.number()?, words.number()?);
         words.expect("≡")?;
-        words.expect("lanesGet")?;
+        words.expect("lanes_get")?;
         let (charged, left, right) = (words.number()?, words.number()?, words.number()?);
         words.end()?;
         let requests = self.repeated(&run, times)?;

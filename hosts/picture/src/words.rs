@@ -70,9 +70,9 @@ impl<'a> Words<'a> {
         }
     }
 
-    /// `sendsBack`, or `(door printer)`.
+    /// `sends_back`, or `(door printer)`.
     pub fn rule(&mut self) -> Result<Rule, String> {
-        if self.peek() == "sendsBack" {
+        if self.peek() == "sends_back" {
             self.left.pop_front();
             return Ok(Rule::Incident);
         }
@@ -82,7 +82,7 @@ impl<'a> Words<'a> {
         Ok(Rule::Rules)
     }
 
-    /// A list of requests: `[]`, `REQUEST ∷ LIST`, `LIST ++ LIST`, `setUp`, `cut`, or one of them in brackets.
+    /// A list of requests: `[]`, `REQUEST ∷ LIST`, `LIST ++ LIST`, `set_up`, `cut`, or one of them in brackets.
     pub fn list(&mut self) -> Result<Vec<Record>, String> {
         let mut list = match self.peek() {
             "[]" => {
@@ -95,7 +95,7 @@ impl<'a> Words<'a> {
                 self.expect(")")?;
                 inner
             }
-            "setUp" | "cut" => {
+            "set_up" | "cut" => {
                 let name = self.next()?;
                 let mut words = self.source.behind(&name, &format!("{name} ="))?;
                 let named = words.list()?;

@@ -30,8 +30,8 @@ fn every_figure_that_the_file_states_is_what_the_model_counts() {
         ("nothing", Rule::Incident, 0, 8),
         ("round", Rule::Incident, 1, 3),
         ("ruled", Rule::Rules, 6, 6),
-        ("ruledAtOnce", Rule::Rules, 4, 4),
-        ("ruledRound", Rule::Rules, 2, 2),
+        ("ruled_at_once", Rule::Rules, 4, 4),
+        ("ruled_round", Rule::Rules, 2, 2),
     ];
     assert_eq!(stated, wanted);
     for claim in &incident.claims {
@@ -51,23 +51,27 @@ fn a_file_of_another_shape_is_refused_with_what_differs() {
     for (old, new, said) in [
         // a figure, a rule and a count that are no longer those of the runs
         (
-            "≡ lanesGet 12 4 8",
-            "≡ lanesGet 12 5 7",
+            "≡ lanes_get 12 4 8",
+            "≡ lanes_get 12 5 7",
             "states (12, 5, 7)",
         ),
         (
-            "≡ lanesGet 12 6 6",
-            "≡ lanesGet 12 7 5",
+            "≡ lanes_get 12 6 6",
+            "≡ lanes_get 12 7 5",
             "states (12, 7, 5)",
         ),
-        ("(λ t. t)", "(withCounter 1)", "`sendsBack` is not the one"),
+        (
+            "(λ t. t)",
+            "(with_counter 1)",
+            "`sends_back` is not the one",
+        ),
         ("figures d 5", "figures d 6", "`counted` is not the one"),
         // requests that it cannot read
         ("Create left 5 2", "Build left 5 2", "where `Build` stands"),
         ("cut = Post", "cut = n Post", "where `n` stands"),
         (
-            "(cutAfterTick 4) 0 20",
-            "(cutAfterTick 4) 0",
+            "(cut_after_tick 4) 0 20",
+            "(cut_after_tick 4) 0",
             "a number is expected where `≡` stands",
         ),
         // a lane that is not in the rank

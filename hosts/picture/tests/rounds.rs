@@ -61,7 +61,7 @@ fn the_reports_are_those_that_the_file_states() {
         ("behind", Rule::Incident),
         ("nothing", Rule::Incident),
         ("ruled", Rule::Rules),
-        ("ruledAtOnce", Rule::Rules),
+        ("ruled_at_once", Rule::Rules),
     ] {
         let field = format!("  pub {name} : reported ");
         let stated = source.lines().find(|line| line.starts_with(&field));

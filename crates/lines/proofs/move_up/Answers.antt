@@ -1,10 +1,10 @@
 -- `lines::move_up` meets its contract: a thread that is not in the line, or not behind the place, is as the rule leaves it;
 -- any other has one place less. Assumes nothing.
+use Rattle.std.specs.Prelude.{if◌then◌else◌}
 use mathlib.Core.Bool.{Bool, true, false}
 use mathlib.Core.Path.{◌≡◌, refl, sym, ap, ◌∙◌}
 use Prim.Native.Nat.{◌-◌, ◌*◌}
 use native.Mathlib.Omega.{arith}
-use Rattle.rules.specs.Basic.{if◌then◌else◌}
 use Rattle.rules.specs.Lines.{Line, in_line, move_up}
 use Rattle.rules.specs.State.{State, at, with_place, with_threads}
 use Rattle.laws.proofs.Moves.{move_up_not, move_up_low}

@@ -1,11 +1,11 @@
 -- `sleep::round` meets its contract: before turn j the sum is that over the first j threads, and no turn is above 99,999. Where a part of the sum is
 -- above `most`, so is the whole. Assumes nothing.
+use Rattle.std.specs.Prelude.{if◌then◌else◌}
 use mathlib.Core.Path.{◌≡◌, refl, ap, ◌∙◌}
 use Prim.Native.Nat.{◌<◌}
 use native.Mathlib.Omega.{arith}
 use lib.ListN.{length}
 use lib.Seq.{take_all}
-use Rattle.rules.specs.Basic.{if◌then◌else◌}
 use Rattle.rules.specs.State.{at}
 use Rattle.rules.specs.Lines.{ready, in_line}
 use Rattle.layout.specs.Held.{said}

@@ -76,7 +76,7 @@ pub fn is_ready(table: &Table, i: usize) -> bool {
     used == 1 && suspended == 0 && byte(table, i, at::WAIT_KIND) == wait::NONE
 }
 
-/// `readyAt`: is the thread ready at this rank?
+/// `ready_at`: is the thread ready at this rank?
 pub fn ready_at(rank: usize, table: &Table, i: usize) -> bool {
     is_ready(table, i) && usize::from(byte(table, i, at::PRIORITY)) == rank
 }
@@ -119,14 +119,14 @@ impl Event {
         is_created.then(|| usize::from(self.asked[1]))
     }
 
-    /// `brokenOff`: the thread that was running "is still ready, and outranked by the one that runs now".
+    /// `broken_off`: the thread that was running "is still ready, and outranked by the one that runs now".
     pub fn broken_off(&self) -> Option<usize> {
         let (was, is) = (running(&self.before), running(&self.after));
         let is_outranked = rank(&self.after, was) < rank(&self.after, is);
         (is_ready(&self.after, was) && is_outranked).then_some(was)
     }
 
-    /// `sameSet` and `undisturbed`: the rank's ready set "is the same after" it, and none of them "yields" or "is named in an accepted
+    /// `same_set` and `undisturbed`: the rank's ready set "is the same after" it, and none of them "yields" or "is named in an accepted
     /// change of settings".
     pub fn keeps(&self, rank: usize) -> bool {
         let is_same = ready_set(rank, &self.before) == ready_set(rank, &self.after);

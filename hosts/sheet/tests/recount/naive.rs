@@ -172,7 +172,7 @@ impl Member {
     }
 }
 
-/// `chargedRank`: to whom of the rank's ready set the event charges a tick.
+/// `charged_rank`: to whom of the rank's ready set the event charges a tick.
 pub fn charged_rank(event: &Event, rank: usize) -> Option<usize> {
     event
         .charged()

@@ -7,6 +7,7 @@ use native.Mathlib.Omega.{arith}
 use borrow.Author.Rules.{rules}
 use borrow.Author.Tests.{ne_eqb}
 use lib.ListN.{length}
+use borrow.Enum.Refused.{opened}
 use types.Run.{OneOf, miss}
 use denote.Enum.Declared.{tag_of}
 use Rattle.rules.specs.contracts.Request as R
@@ -14,8 +15,7 @@ use Rattle.rules.specs.declared.Request.{Request}
 use Rattle.rules.specs.declared.Request.TheVariants as Ask
 use Rattle.fairness.specs.Run.{deed_of}
 use Rattle.accounts.specs.Accounts.{entered}
-use Rattle.accounts.proofs.enter.Statement.{statement}
-use Rattle.accounts.proofs.enter.Tie as tie
+use Rattle.accounts.proofs.enter.Goals as goal
 
 -- the tags of all requests but a creation and a tick
 abbrev others : List ℕ
@@ -47,69 +47,31 @@ nothing_entered ns Ask.Nearest ran lock k = refl
 nothing_entered ns (Ask.SetPriority i p) ran lock k = refl
 nothing_entered ns (Ask.SetTurn i n) ran lock k = refl
 
-enum_told : tie.Need-enum-told
-enum_told c = search rules
-
-mul-accounts : tie.Need-overflow_mul-accounts
-mul-accounts c =
-    let found : c.before.before.before.args.ran < length c.before.before.before.args.accounts.now = rw c.before.enum_told.given.1 at c.before.before.before.requires.0 in
+pub offset_bounds-accounts-ran : goal.offset_bounds-accounts-ran
+offset_bounds-accounts-ran c =
+    let found : c.args.ran < length c.args.accounts.now = rw c.in-Tick.is at c.requires.finds in
     search (rules, found)
 
-slice-read-accounts : tie.Need-slice-read-accounts
-slice-read-accounts c = rw c.before.before.enum_told.given.1 at c.before.before.before.before.requires.0
+pub bounds-accounts-ran : goal.bounds-accounts-ran
+bounds-accounts-ran c = rw c.in-Tick.is at c.requires.finds
 
-add-accounts : tie.Need-overflow_add-accounts
-add-accounts c = record { fits = omega (arith, c.before.before.before.before.requires.1 c.before.before.before.before.args.ran) }
+pub overflow_add-accounts : goal.overflow_add-accounts
+overflow_add-accounts c = record { fits = omega (arith, c.requires.within c.args.ran) }
 
-slice-write-accounts : tie.Need-slice-write-accounts
-slice-write-accounts c = rw c.before.before.enum_told.given.1 at c.before.before.before.before.requires.0
+pub bounds-accounts-ran-then-lock-eq0 : goal.bounds-accounts-ran-then-lock-eq0
+bounds-accounts-ran-then-lock-eq0 c = rw c.in-Tick.is at c.requires.finds
 
-enum-known-request : tie.Need-enum-known-request
-enum-known-request c = search rules
+pub bounds-accounts-thread : goal.bounds-accounts-thread
+bounds-accounts-thread c = rw c.in-Create.is at c.requires.finds
 
-cast-accounts : tie.Need-overflow_cast-accounts
-cast-accounts c = search rules
+pub returns-then-lock-eq0 : goal.returns-then-lock-eq0
+returns-then-lock-eq0 c = rw (c.in-Tick.is, c.if-lock-eq0.true)
 
-mul-accounts-2 : tie.Need-overflow_mul-accounts-2
-mul-accounts-2 c = search rules
+pub returns-else-lock-eq0 : goal.returns-else-lock-eq0
+returns-else-lock-eq0 c = rw (c.in-Tick.is, ne_eqb c.args.lock 0 c.if-lock-eq0.false)
 
-slice-write-accounts-2 : tie.Need-slice-write-accounts-2
-slice-write-accounts-2 c = rw c.before.request.given.1 at c.before.before.before.requires.0
+pub returns-in-Create : goal.returns-in-Create
+returns-in-Create c = rw c.in-Create.is
 
-same_length : tie.Need-same-length
-same_length c = search rules
-
-returns : tie.Need-returns
-returns c = rw (c.before.before.enum_told.given.1, c.before.if1.true)
-
-returns_2 : tie.Need-returns-2
-returns_2 c = rw (c.before.enum_told.given.1, ne_eqb c.before.before.before.args.lock 0 c.if1.false)
-
-same_length_2 : tie.Need-same-length-2
-same_length_2 c = search rules
-
-returns-3 : tie.Need-returns-3
-returns-3 c = rw c.before.request.given.1
-
-returns-4 : tie.Need-returns-4
-returns-4 c = nothing_entered c.before.args.accounts.now c.before.args.request c.before.args.ran c.before.args.lock c.match.keys3
-
-pub enter_spec : {M : Type 1} → statement M
-enter_spec =
-    tie.close
-    (tie.spec
-    enum_told
-    mul-accounts
-    slice-read-accounts
-    add-accounts
-    slice-write-accounts
-    enum-known-request
-    cast-accounts
-    mul-accounts-2
-    slice-write-accounts-2
-    same_length
-    returns
-    returns_2
-    same_length_2
-    returns-3
-    returns-4)
+pub returns-in_default : goal.returns-in_default
+returns-in_default c = nothing_entered c.args.accounts.now c.args.request c.args.ran c.args.lock (opened c.in_default.in_default-own.keys3)

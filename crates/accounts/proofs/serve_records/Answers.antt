@@ -1,0 +1,68 @@
+-- `accounts::serve_records` meets its contract: before turn j the table and the accounts are those after the first j records. Assumes nothing.
+use mathlib.Core.Path.{◌≡◌, refl, sym, ap, ◌∙◌}
+use Prim.Native.Nat.{◌*◌}
+use native.Mathlib.Omega.{arith}
+use lib.ListN.{take, drop}
+use Rattle.rules.specs.Board.{printer}
+use Rattle.rules.specs.Requests.{request_length}
+use Rattle.rules.specs.Door.{door, table_after}
+use Rattle.rules.specs.Trace.{records, clean_area}
+use Rattle.fairness.specs.Doors.{run_of}
+use Rattle.lanes.specs.Kept.{of}
+use Rattle.accounts.specs.Accounts.{accounts_from, events_here, handed, events_of}
+use Rattle.accounts.proofs.Accounts.{accounts_none, still_within}
+use Rattle.accounts.proofs.Served.{table_next, accounts_next, most_events}
+use Rattle.accounts.proofs.serve_records.Goals as goal
+
+pub loop-j-init : goal.loop-j-init
+unfolding table_after records run_of
+loop-j-init c = (omega arith, refl, refl, refl, sym (accounts_none 0 c.args.accounts.now))
+
+pub serve_record-requires : goal.serve_record-requires
+serve_record-requires c =
+    let inv = c.loop-j.invariant in
+    let j = c.loop-j.j in
+    let t = c.args.table.now in
+    let input = c.args.input.now in
+    let ns = c.args.accounts.now in
+    let within = still_within j c.args.k ns (events_of t j input) inv.0 (most_events t j input) c.requires.kept.1 in
+    let more = c.loop-j-test.true in record {
+      table_len = inv.1 ∙ c.requires.table_len;
+      kept = (inv.2 ∙ c.requires.kept.0, λ i. omega (arith, within i, ap (λ l. of l i) inv.4, more));
+      request_length_in_bounds = omega (arith, more, c.requires.request_length_in_bounds);
+    }
+
+pub loop-j-preserved : goal.loop-j-preserved
+loop-j-preserved c =
+    let inv = c.loop-j.invariant in
+    let j = c.loop-j.j in
+    let t = c.args.table.now in
+    let input = c.args.input.now in
+    let ns = c.args.accounts.now in
+    let next = take request_length (drop (j * request_length) input) in
+    let served = c.serve_record in (
+      omega (arith, c.loop-j-test.true),
+      served.auto.table ∙ inv.1,
+      served.auto.accounts ∙ inv.2,
+      served.ensures.table ∙ (λ i. (door printer (inv.3 i) next clean_area).table) ∙ sym (table_next t input j),
+      served.ensures.accounts
+          ∙ (λ i. accounts_from 0 (inv.4 i) (events_here (inv.3 i) next))
+          ∙ sym (accounts_next t input j ns),
+    )
+
+pub shape_of-table : goal.shape_of-table
+shape_of-table c = c.loop-j.invariant.1
+
+pub shape_of-accounts : goal.shape_of-accounts
+shape_of-accounts c = c.loop-j.invariant.2
+
+pub returns : goal.returns
+returns c =
+    let inv = c.loop-j.invariant in
+    let all : c.loop-j.j ≡ c.args.k = omega (arith, inv.0, c.loop-j-test.false) in
+    let t = c.args.table.now in
+    let input = c.args.input.now in
+    record {
+      table = inv.3 ∙ ap (λ k. table_after printer t (handed k input)) all;
+      accounts = inv.4 ∙ ap (λ k. accounts_from 0 c.args.accounts.now (events_of t k input)) all;
+    }
