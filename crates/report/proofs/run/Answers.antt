@@ -17,10 +17,10 @@ read_behind-come-requires c = omega (arith, c.loop-reads.invariant.2, c.loop-rea
 
 pub close-requires : goal.close-requires
 close-requires c =
-    let loop = c.loop-reads in record {
-      says_sound = (loop.invariant.0 ∙ c.requires.says_sound.0, sound_there loop.invariant.6 c.requires.says_sound.1);
-      kept = (loop.invariant.1 ∙ c.requires.kept.0, λ i. omega (arith, within_there loop.invariant.6 c.requires.kept.1 i));
-      report_room_in_bounds = omega (arith, loop.invariant.3, c.requires.first_le_most_records.2);
+    record {
+      says_sound = (c.loop-reads.invariant.0 ∙ c.requires.says_sound.0, sound_there c.loop-reads.invariant.6 c.requires.says_sound.1);
+      kept = (c.loop-reads.invariant.1 ∙ c.requires.kept.0, λ i. omega (arith, within_there c.loop-reads.invariant.6 c.requires.kept.1 i));
+      report_room_in_bounds = omega (arith, c.loop-reads.invariant.3, c.requires.first_le_most_records.2);
     }
 
 pub shape_of-table-then-n-held : goal.shape_of-table-then-n-held
@@ -37,33 +37,30 @@ shape_of-out-then-n-held c = c.close.auto.out ∙ c.loop-reads.invariant.3
 
 pub returns-then-n-held : goal.returns-then-n-held
 returns-then-n-held c =
-    let loop = c.loop-reads in
     let come = c.read_behind-come in
     let closed = c.close in
-    ended_by come.new.block loop.held c.requires.first_le_most_records.0 c.requires.kept.0 (stands_same loop.block come.new.block loop.held come.ensures.held loop.invariant.6)
+    ended_by come.new.block c.loop-reads.held c.requires.first_le_most_records.0 c.requires.kept.0 (stands_same c.loop-reads.block come.new.block c.loop-reads.held come.ensures.held c.loop-reads.invariant.6)
     (omega (arith, come.ensures.within)) _ _ _ closed.ensures.counts.0 closed.ensures.counts.1 closed.ensures.counts.2 closed.ensures.text
-    (omega (arith, closed.ensures.room, loop.invariant.3, c.requires.first_le_most_records.2))
+    (omega (arith, closed.ensures.room, c.loop-reads.invariant.3, c.requires.first_le_most_records.2))
 
 pub serve-stood-requires : goal.serve-stood-requires
 serve-stood-requires c =
-    let loop = c.loop-reads in
     let come = c.read_behind-come in record {
-      table_len = loop.invariant.0 ∙ c.requires.says_sound.0;
-      kept = (loop.invariant.1 ∙ c.requires.kept.0, within_there loop.invariant.6 c.requires.kept.1);
-      number_le_most_records = (count_low loop.invariant.6 c.requires.first_le_most_records.0, come.ensures.within.1);
+      table_len = c.loop-reads.invariant.0 ∙ c.requires.says_sound.0;
+      kept = (c.loop-reads.invariant.1 ∙ c.requires.kept.0, within_there c.loop-reads.invariant.6 c.requires.kept.1);
+      number_le_most_records = (count_low c.loop-reads.invariant.6 c.requires.first_le_most_records.0, come.ensures.within.1);
     }
 
 pub close-requires-then-held-ge-REQUEST : goal.close-requires-then-held-ge-REQUEST
 close-requires-then-held-ge-REQUEST c =
-    let loop = c.loop-reads in
     let come = c.read_behind-come in
     let served = c.serve-stood in
     let stands =
-    stands_part loop.block come.new.block loop.held come.result.n come.ensures.held come.ensures.within.0 come.ensures.within.1 c.requires.first_le_most_records.0 loop.invariant.6 _ _ _ _ _
+    stands_part c.loop-reads.block come.new.block c.loop-reads.held come.result.n come.ensures.held come.ensures.within.0 come.ensures.within.1 c.requires.first_le_most_records.0 c.loop-reads.invariant.6 _ _ _ _ _
     served.ensures.stood.0 served.ensures.stood.1 served.ensures.table served.ensures.accounts served.ensures.block in record {
-      says_sound = (served.auto.table ∙ loop.invariant.0 ∙ c.requires.says_sound.0, sound_there stands c.requires.says_sound.1);
-      kept = (served.auto.accounts ∙ loop.invariant.1 ∙ c.requires.kept.0, λ i. omega (arith, within_there stands c.requires.kept.1 i));
-      report_room_in_bounds = omega (arith, loop.invariant.3, c.requires.first_le_most_records.2);
+      says_sound = (served.auto.table ∙ c.loop-reads.invariant.0 ∙ c.requires.says_sound.0, sound_there stands c.requires.says_sound.1);
+      kept = (served.auto.accounts ∙ c.loop-reads.invariant.1 ∙ c.requires.kept.0, λ i. omega (arith, within_there stands c.requires.kept.1 i));
+      report_room_in_bounds = omega (arith, c.loop-reads.invariant.3, c.requires.first_le_most_records.2);
     }
 
 pub shape_of-table-then-held-ge-REQUEST : goal.shape_of-table-then-held-ge-REQUEST
@@ -80,44 +77,42 @@ shape_of-out-then-held-ge-REQUEST c = c.close-then-held-ge-REQUEST.auto.out ∙ 
 
 pub returns-then-held-ge-REQUEST : goal.returns-then-held-ge-REQUEST
 returns-then-held-ge-REQUEST c =
-    let loop = c.loop-reads in
     let come = c.read_behind-come in
     let served = c.serve-stood in
     let stands =
-    stands_part loop.block come.new.block loop.held come.result.n come.ensures.held come.ensures.within.0 come.ensures.within.1 c.requires.first_le_most_records.0 loop.invariant.6 _ _ _ _ _
+    stands_part c.loop-reads.block come.new.block c.loop-reads.held come.result.n come.ensures.held come.ensures.within.0 come.ensures.within.1 c.requires.first_le_most_records.0 c.loop-reads.invariant.6 _ _ _ _ _
     served.ensures.stood.0 served.ensures.stood.1 served.ensures.table served.ensures.accounts served.ensures.block in
     let closed = c.close-then-held-ge-REQUEST in
     ended_by served.new.block served.result.held c.requires.first_le_most_records.0 c.requires.kept.0 stands
     (omega (arith, served.ensures.stood.1, come.ensures.within, served.auto.block)) _ _ _ closed.ensures.counts.0 closed.ensures.counts.1 closed.ensures.counts.2 closed.ensures.text
-    (omega (arith, closed.ensures.room, loop.invariant.3, c.requires.first_le_most_records.2))
+    (omega (arith, closed.ensures.room, c.loop-reads.invariant.3, c.requires.first_le_most_records.2))
 
 pub loop-reads-smaller : goal.loop-reads-smaller
 loop-reads-smaller c = fewer c.loop-reads.reads c.loop-reads-test.true
 
 pub loop-reads-preserved : goal.loop-reads-preserved
 loop-reads-preserved c =
-    let loop = c.loop-reads in
     let come = c.read_behind-come in
     let served = c.serve-stood in
     let stands =
-    stands_part loop.block come.new.block loop.held come.result.n come.ensures.held come.ensures.within.0 come.ensures.within.1 c.requires.first_le_most_records.0 loop.invariant.6 _ _ _ _ _
+    stands_part c.loop-reads.block come.new.block c.loop-reads.held come.result.n come.ensures.held come.ensures.within.0 come.ensures.within.1 c.requires.first_le_most_records.0 c.loop-reads.invariant.6 _ _ _ _ _
     served.ensures.stood.0 served.ensures.stood.1 served.ensures.table served.ensures.accounts served.ensures.block in
     let some = c.loop-reads-test.true in (
-      served.auto.table ∙ loop.invariant.0,
-      served.auto.accounts ∙ loop.invariant.1,
-      served.auto.block ∙ come.auto.block ∙ loop.invariant.2,
-      loop.invariant.3,
+      served.auto.table ∙ c.loop-reads.invariant.0,
+      served.auto.accounts ∙ c.loop-reads.invariant.1,
+      served.auto.block ∙ come.auto.block ∙ c.loop-reads.invariant.2,
+      c.loop-reads.invariant.3,
       omega (arith, c.if-held-ge-REQUEST.false),
-      omega (arith, come.ensures.within, come.auto.block, loop.invariant.2, loop.invariant.5, some),
+      omega (arith, come.ensures.within, come.auto.block, c.loop-reads.invariant.2, c.loop-reads.invariant.5, some),
       stands,
     )
 
 pub close-requires-2 : goal.close-requires-2
 close-requires-2 c =
-    let loop = c.loop-reads in record {
-      says_sound = (loop.invariant.0 ∙ c.requires.says_sound.0, sound_there loop.invariant.6 c.requires.says_sound.1);
-      kept = (loop.invariant.1 ∙ c.requires.kept.0, λ i. omega (arith, within_there loop.invariant.6 c.requires.kept.1 i));
-      report_room_in_bounds = omega (arith, loop.invariant.3, c.requires.first_le_most_records.2);
+    record {
+      says_sound = (c.loop-reads.invariant.0 ∙ c.requires.says_sound.0, sound_there c.loop-reads.invariant.6 c.requires.says_sound.1);
+      kept = (c.loop-reads.invariant.1 ∙ c.requires.kept.0, λ i. omega (arith, within_there c.loop-reads.invariant.6 c.requires.kept.1 i));
+      report_room_in_bounds = omega (arith, c.loop-reads.invariant.3, c.requires.first_le_most_records.2);
     }
 
 pub shape_of-table : goal.shape_of-table
@@ -134,8 +129,7 @@ shape_of-out c = c.close-2.auto.out ∙ c.loop-reads.invariant.3
 
 pub returns : goal.returns
 returns c =
-    let loop = c.loop-reads in
     let closed = c.close-2 in
-    ended_by loop.block loop.held c.requires.first_le_most_records.0 c.requires.kept.0 loop.invariant.6
-    (omega (arith, loop.invariant.2, loop.invariant.4)) _ _ _ closed.ensures.counts.0 closed.ensures.counts.1 closed.ensures.counts.2 closed.ensures.text
-    (omega (arith, closed.ensures.room, loop.invariant.3, c.requires.first_le_most_records.2))
+    ended_by c.loop-reads.block c.loop-reads.held c.requires.first_le_most_records.0 c.requires.kept.0 c.loop-reads.invariant.6
+    (omega (arith, c.loop-reads.invariant.2, c.loop-reads.invariant.4)) _ _ _ closed.ensures.counts.0 closed.ensures.counts.1 closed.ensures.counts.2 closed.ensures.text
+    (omega (arith, closed.ensures.room, c.loop-reads.invariant.3, c.requires.first_le_most_records.2))
