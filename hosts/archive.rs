@@ -17,7 +17,7 @@ pub fn source(name: &str) -> PathBuf {
     path
 }
 
-/// `libkernel.a` in the folder that SPELTMALLET_LIB names, else where `rt staticlib kernel` writes
+/// `libkernel.a` in the folder that SPELTMALLET_LIB names, else where `hosts/build kernel` puts
 /// it.
 pub fn archive() -> PathBuf {
     println!("cargo:rerun-if-env-changed=SPELTMALLET_LIB");
@@ -30,7 +30,7 @@ pub fn archive() -> PathBuf {
     fs::canonicalize(&path).unwrap_or_else(|_| {
         let path = path.display();
         stop(&format!(
-            "there is no {path}: run `rt staticlib kernel` at the top of the repository, or set \
+            "there is no {path}: run `hosts/build kernel` at the top of the repository, or set \
              SPELTMALLET_LIB to the folder that has it"
         ))
     })

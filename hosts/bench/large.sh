@@ -3,7 +3,7 @@
 # repository's own. Nothing is proved by this. A copy of the sources gets that board's 32 threads and 16 semaphores in the place of 16 and 8, and another
 # copy admits the length of its table beside the first; each is compiled at -O3 without proof, by what `rt try` calls, and the bench reads the frames of the
 # object file; so it does with the sources as they are, for comparison. Ends with status 1 where the door of the four-lane board alone takes above 320 bytes,
-# where no bound can be read, or where the sources lack a line that a copy changes. The bench needs the archive (rt staticlib kernel).
+# where no bound can be read, or where the sources lack a line that a copy changes. The bench needs the archive (hosts/build kernel).
 set -euo pipefail
 
 stop() {
@@ -24,9 +24,9 @@ for file in "$numbers" "$boards"; do
   [ -f "$crates/$file" ] || stop "there is no $crates/$file: the argument is the folder that has a folder for each crate"
 done
 archive=${SPELTMALLET_LIB:-$top/target/staticlib}/libkernel.a
-[ -f "$archive" ] || stop "there is no $archive: run 'rt staticlib kernel' at the top of the repository"
+[ -f "$archive" ] || stop "there is no $archive: run 'hosts/build kernel' at the top of the repository"
 guide=$(rt doc) || stop "there is no rt on the PATH: the Rattle kit has the compiler"
-kit=$(dirname "$(dirname "$guide")")
+kit=$(dirname "$guide")
 own=$kit/on/$(uname -m)
 [ -x "$own/bin/rattle-cases" ] || stop "the kit at $kit has no rattle-cases for this machine, $(uname -m)"
 room=$(mktemp -d)

@@ -9,10 +9,10 @@ stop() {
   printf 'hosts/bench/programs.sh: %s\n' "$*" >&2
   exit 1
 }
-[ $# -eq 2 ] || stop "two arguments are accepted: the folder that has libkernel.a, and the folder of the programs (target/bin after 'rt check' of trace, write, list and report)"
-[ -f "$1/libkernel.a" ] || stop "there is no $1/libkernel.a: run 'rt staticlib kernel' at the top of the repository"
+[ $# -eq 2 ] || stop "two arguments are accepted: the folder that has libkernel.a, and the folder of the programs (target/bin after 'hosts/build' of trace, write, list and report)"
+[ -f "$1/libkernel.a" ] || stop "there is no $1/libkernel.a: run 'hosts/build kernel' at the top of the repository"
 for program in trace write list report; do
-  [ -f "$2/$program" ] || stop "there is no $2/$program: run 'rt check $program' at the top of the repository"
+  [ -f "$2/$program" ] || stop "there is no $2/$program: run 'hosts/build $program' at the top of the repository"
 done
 archive=$(cd "$1" && pwd)/libkernel.a
 bin=$(cd "$2" && pwd)

@@ -8,8 +8,8 @@ stop() {
   printf 'hosts/c/check.sh: %s\n' "$*" >&2
   exit 1
 }
-[ $# -eq 1 ] || stop "one argument is accepted: the folder that has libkernel.a (target/staticlib after 'rt staticlib kernel')"
-[ -f "$1/libkernel.a" ] || stop "there is no $1/libkernel.a: run 'rt staticlib kernel' at the top of the repository"
+[ $# -eq 1 ] || stop "one argument is accepted: the folder that has libkernel.a (target/staticlib after 'hosts/build kernel')"
+[ -f "$1/libkernel.a" ] || stop "there is no $1/libkernel.a: run 'hosts/build kernel' at the top of the repository"
 archive=$(cd "$1" && pwd)/libkernel.a
 cd "$(dirname "${BASH_SOURCE[0]}")"
 room=$(mktemp -d)

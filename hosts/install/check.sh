@@ -8,8 +8,8 @@ stop() {
   printf 'hosts/install/check.sh: %s\n' "$*" >&2
   exit 1
 }
-[ $# -eq 1 ] || stop "one argument is accepted: the folder that has libkernel.a (target/staticlib after 'rt staticlib kernel')"
-[ -f "$1/libkernel.a" ] || stop "there is no $1/libkernel.a: run 'rt staticlib kernel' at the top of the repository"
+[ $# -eq 1 ] || stop "one argument is accepted: the folder that has libkernel.a (target/staticlib after 'hosts/build kernel')"
+[ -f "$1/libkernel.a" ] || stop "there is no $1/libkernel.a: run 'hosts/build kernel' at the top of the repository"
 command -v pkg-config >/dev/null 2>&1 || stop "there is no pkg-config on the PATH: install it and run this again"
 archive=$(cd "$1" && pwd)/libkernel.a
 cd "$(dirname "${BASH_SOURCE[0]}")"

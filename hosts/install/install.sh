@@ -16,7 +16,7 @@ fi
 top=$(cd "$(dirname "${BASH_SOURCE[0]}")/../.." && pwd)
 header=$top/include/speltmallet.h
 archive=$top/target/staticlib/libkernel.a
-[ -f "$archive" ] || stop "there is no $archive: run 'rt staticlib kernel' at the top of the repository"
+[ -f "$archive" ] || stop "there is no $archive: run 'hosts/build kernel' at the top of the repository"
 version=$(cat "$top/VERSION")
 
 case $1 in

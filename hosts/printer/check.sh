@@ -8,9 +8,9 @@ stop() {
   printf 'hosts/printer/check.sh: %s\n' "$*" >&2
   exit 1
 }
-[ $# -eq 2 ] || stop "two arguments are accepted: the folder that has libkernel.a, and the trace program (target/bin/trace after 'rt check trace')"
-[ -f "$1/libkernel.a" ] || stop "there is no $1/libkernel.a: run 'rt staticlib kernel' at the top of the repository"
-[ -f "$2" ] || stop "there is no $2: run 'rt check trace' at the top of the repository"
+[ $# -eq 2 ] || stop "two arguments are accepted: the folder that has libkernel.a, and the trace program (target/bin/trace after 'hosts/build trace')"
+[ -f "$1/libkernel.a" ] || stop "there is no $1/libkernel.a: run 'hosts/build kernel' at the top of the repository"
+[ -f "$2" ] || stop "there is no $2: run 'hosts/build trace' at the top of the repository"
 archive=$(cd "$1" && pwd)/libkernel.a
 trace=$(cd "$(dirname "$2")" && pwd)/$(basename "$2")
 cd "$(dirname "${BASH_SOURCE[0]}")"

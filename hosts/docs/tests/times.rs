@@ -7,20 +7,28 @@ use std::process::{Command, Output};
 use docs::top;
 
 const LOG: &str = "\
-enum rules::Wait: proved
-rt: rules proved (12 s)
-fn words::put_word: proved
-rt: words proved (4 s)
-logic=proved functions=3 sum=064da1ca440f63e7 native=nat,char,string logic-built=trusted libraries-built=trusted
-rt: sound proved (126 s)
-rt: must-fail rules/answers_0_always: refused, as it must be (first at proofs/Tried.antt:20:9; 2 s)
-rt: must-fail rules/broken_off_refilled: refused, as it must be (first at proofs/Tried.antt:20:9; 11 s)
-rt: must-fail words/low_byte_last: refused, as it must be (first at proofs/put_word/Proof.antt:31:30; 105 s)
-7 passed, 0 failed
+12 == rules
+12 enum rules::Wait: proved
+12 logic=proved functions=3 sum=dac8208d650f15bf native=nat,char,string logic-built=trusted libraries-built=trusted statements=trusted
+12 rt: rules proved
+16 fn words::put_word: proved
+16 rt: words proved
+16 rt: rules: its tests are proved
+17 rt: laws is kept: an earlier run on this machine proved the same files over the same libraries
+126 rt: sound proved
+126 rt: sound: trying its must-fail edits (1)
+250 rt: must-fail rules/answers_0_always.edit: refused, as it must be: note: src/lib.rt:20:9: it is not proved that ..
+250 rt: must-fail rules/broken_off_refilled.edit: refused, as it must be: note: src/lib.rt:20:9: it is not proved that ..
+250 rt: laws: 1 of its 1 must-fail edits were tried by an earlier run on this machine, and nothing that they stand on has changed
+250 rt: must-fail laws/other_way.edit: refused, as it must be (only by a limit of the prover, which gave no verdict)
+250 rt: must-fail words/low_byte_last.edit: refused, as it must be: note: src/lib.rt:31:30: it is not proved that ..
+250 rt: must-fail words/not_there.edit: BAD EDIT: an 'old:' text is in src/lib.rt 0 times, and not once
+250 rt: ok; handles allowed: none; must-fail edits: 4 refused, 1 bad; every proof and must-fail edit was done in this run
+250 8 passed, 0 failed
 ";
 
 const PARTS: &str = "\
-1 layout of the sources
+1 lint
 250 proofs, must-fail edits, programs
 9 hosts: the model, the door against it, the trace program, the documents
 30 hosts: stack
@@ -28,18 +36,19 @@ const PARTS: &str = "\
 
 const PRINTED: &str = "\
 part                                                                     seconds
-layout of the sources                                                          1
+lint                                                                           1
 proofs, must-fail edits, programs                                            250
 hosts: the model, the door against it, the trace program, the documents        9
 hosts: stack                                                                  30
 hosts together                                                                39
 all                                                                          290
 
-crate            proof  edits seconds
-sound              126      0       0
-words                4      1     105
-rules               12      2      13
-all                142      3     118
+crate           proved  edits
+sound              126      0
+words               16      1
+rules               12      2
+laws              kept      1
+all                126      4
 ";
 
 fn written(name: &str, text: &str) -> PathBuf {
@@ -69,7 +78,7 @@ fn a_log_without_crates_gives_empty_sums() {
     let printed = String::from_utf8_lossy(&output.stdout).into_owned();
     assert!(output.status.success(), ".ci/times fails on an empty log");
     assert!(
-        printed.ends_with("all                  0      0       0\n"),
+        printed.ends_with("all                  0      0\n"),
         "{printed}"
     );
 }

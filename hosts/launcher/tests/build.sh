@@ -138,9 +138,11 @@ a_failing_build_runs_nothing() {
   for _ in 1 2; do
     ran trace "$example"
     [ "$status" -eq 1 ] || { echo "status $status" && return 1; }
-    has "trace NOT PROVED" "$TRIED/err"
-    has "rt: rules proved" "$TRIED/err"
-    has "rt check trace" "$TRIED/err"
+    has "fn trace::run: no proof" "$TRIED/err"
+    has "crate rules: " "$TRIED/err"
+    has "hosts/build trace" "$TRIED/err"
+    has "target/log/trace has the whole" "$TRIED/err"
+    has "fn trace::run: no proof" target/log/trace
     [ ! -s "$TRIED/out" ]
   done
   [ -z "$(find "$TMPDIR" -mindepth 1)" ] || { echo "left behind: $(find "$TMPDIR" -mindepth 1)" && return 1; }

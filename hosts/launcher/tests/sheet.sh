@@ -7,7 +7,7 @@ both_programs_are_built_and_all_words_are_handed_on() {
   anew
   ran sheet --names "1=left lane,2=right lane" "$example" "a page.html"
   [ "$status" -eq 0 ] || { cat "$TRIED/err" && return 1; }
-  printf 'check trace\ncheck report\n' | diff - "$TRIED/builds"
+  printf 'run of trace\nrun of report\n' | diff - "$TRIED/builds"
   has "-p sheet -- --names 1=left lane,2=right lane $example a page.html" "$TRIED/out"
   ran sheet - <"$example"
   ended 0 0

@@ -7,7 +7,7 @@ a_program_is_built_by_its_own_check() {
   anew
   ran "$1" "$room/given/$1"
   ended 0 5
-  is "check $1" "$TRIED/builds"
+  is "run of $1" "$TRIED/builds"
   has "proving and building target/bin/$1: about " "$TRIED/err"
   has "4 of 4 crates proved, the last is $1" "$TRIED/err"
   cmp "$room/right/$1" "$TRIED/out"

@@ -82,11 +82,11 @@ echo "installed into <$1>"
 FAKE
   chmod 755 hosts/install/install.sh
   ran install
-  has "3 of 3 crates proved, the last is kernel" "$TRIED/err"
+  has "4 of 4 crates proved, the last is kernel_c" "$TRIED/err"
   [ "$(cat "$TRIED/out")" = "installed into </usr/local>" ] || { cat "$TRIED/out" "$TRIED/err" && return 1; }
   ran install "some where"
   [ "$(cat "$TRIED/out")" = "installed into <some where>" ]
   ran install --fast
   ended 1 1
-  [ "$(cat "$TRIED/builds")" = "staticlib kernel" ]
+  [ "$(cat "$TRIED/builds")" = "lib of kernel_c" ]
 }

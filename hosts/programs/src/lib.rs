@@ -74,7 +74,7 @@ impl Program {
         let shown = path.display();
         assert!(
             path.exists(),
-            "there is no {shown}: run 'rt check {name}' at the top of the repository"
+            "there is no {shown}: run 'hosts/build {name}' at the top of the repository"
         );
         path
     }

@@ -44,7 +44,7 @@ impl About {
 fn kit_here() -> Result<String, String> {
     let named = held("KIT")?;
     let output = Command::new("rt")
-        .arg("--version")
+        .arg("version")
         .stderr(Stdio::null())
         .output();
     let output = output.ok().filter(|output| output.status.success());

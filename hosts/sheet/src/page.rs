@@ -85,7 +85,7 @@ fn theorems(about: &About) -> String {
     }
     let _ = write!(
         page,
-        r#"</tbody></table></div><p>Speltmallet {}, revision <code>{}</code>; Rattle kit <code>{}</code>. In a clone of that revision, <code>bash .ci/run</code> proves all of it from nothing and runs every test; <code>rt check lateness</code> proves the bounds alone, and <code>rt check tight</code> that the kernel's code keeps them.</p></section>"#,
+        r#"</tbody></table></div><p>Speltmallet {}, revision <code>{}</code>; Rattle kit <code>{}</code>. In a clone of that revision, <code>bash .ci/run</code> proves all of it from nothing and runs every test; <code>rt ci lateness</code> proves the bounds alone, and <code>rt ci tight</code> that the kernel's code keeps them.</p></section>"#,
         escape(&about.version),
         escape(&about.revision),
         escape(&about.kit)

@@ -24,11 +24,9 @@ answered a l e z w m v n = rw (n, m, v, w, z) (filled _ l e)
 
 pub returns : goal.returns
 returns c =
-    let code = c.code in
-    let bits = c.bits in
     answered c.args.a c.args.area.now c.requires
-    (to_z-of_z w32 _ (record { sfits = code.type_inv }) ∙ code.ensures)
-    bits.ensures
+    (to_z-of_z w32 _ (record { sfits = c.code.type_inv }) ∙ c.code.ensures)
+    c.bits.ensures
     c.put_word.ensures
     c.value.ensures
     c.put_word-2.ensures

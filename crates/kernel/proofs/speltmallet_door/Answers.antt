@@ -54,9 +54,7 @@ put_answer-requires c =
 pub returns-in_default : goal.returns-in_default
 unfolding door serve_decoded
 returns-in_default c =
-    let can-serve = c.can_serve in
-    let if1 = c.if-not-can_serve in
-    let can = sym can-serve.ensures ∙ if1.false in
+    let can = sym c.can_serve.ensures ∙ c.if-not-can_serve.false in
     let bad = sym c.decode.ensures ∙ c.in_default.is in
     let k = c.code-in_default in record {
       code = rw (can, bad) (to_z-of_z w32 k.result (record { sfits = k.type_inv }) ∙ k.ensures);
@@ -70,19 +68,14 @@ step-given-requires c =
 
 pub put_answer-requires-2 : goal.put_answer-requires-2
 put_answer-requires-2 c =
-    let can-serve = c.can_serve in
-    let if1 = c.if-not-can_serve in
-    (servable c.args.table.now c.args.answer.now can-serve.ensures if1.false).0
+    (servable c.args.table.now c.args.answer.now c.can_serve.ensures c.if-not-can_serve.false).0
 
 pub returns : goal.returns
 unfolding door
 returns c =
-    let can-serve = c.can_serve in
-    let if1 = c.if-not-can_serve in
-    let decode = c.decode in
-    let can = sym can-serve.ensures ∙ if1.false in
-    let asked = sym decode.ensures ∙ c.in-Asked.is in
-    let d = served _ _ (servable c.args.table.now c.args.answer.now can-serve.ensures if1.false).1 c.step-given.ensures in
+    let can = sym c.can_serve.ensures ∙ c.if-not-can_serve.false in
+    let asked = sym c.decode.ensures ∙ c.in-Asked.is in
+    let d = served _ _ (servable c.args.table.now c.args.answer.now c.can_serve.ensures c.if-not-can_serve.false).1 c.step-given.ensures in
     let k = c.code-2 in record {
       code = rw (can, asked) (to_z-of_z w32 k.result (record { sfits = k.type_inv }) ∙ k.ensures ∙ ap (λ x. x.code) d);
       table = rw (can, asked) (ap (λ x. x.table) d);

@@ -33,12 +33,11 @@ loop-i-preserved c =
     let f = of c.args.accounts.now in
     let i = c.loop-i.i in
     let inv = c.loop-i.invariant in
-    let put = c.put_lane-next in
     let more : i < length s.threads = omega (arith, c.loop-i-test.true, (on_decode printer c.args.table.now).threads) in (
       omega (arith, c.loop-i-test.true),
-      omega (arith, inv.1, put.ensures.room),
-      put.auto.out ∙ inv.2,
-      rw (lines_turn s.threads i more f s) (inv.3 followed_by put.ensures.line),
+      omega (arith, inv.1, c.put_lane-next.ensures.room),
+      c.put_lane-next.auto.out ∙ inv.2,
+      rw (lines_turn s.threads i more f s) (inv.3 followed_by c.put_lane-next.ensures.line),
     )
 
 pub shape_of-out : goal.shape_of-out

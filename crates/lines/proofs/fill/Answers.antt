@@ -7,9 +7,8 @@ use Rattle.lines.proofs.fill.Goals as goal
 
 pub returns-then-is_ready : goal.returns-then-is_ready
 returns-then-is_ready c =
-    let start = c in
     let th = c.load_thread-th in
-    edit_as start.args.i th.result th.ensures (with_counter th.result.turn) filled (rw (sym c.is_ready.ensures ∙ c.if-is_ready.true)) c.set_counter.ensures
+    edit_as c.args.i th.result th.ensures (with_counter th.result.turn) filled (rw (sym c.is_ready.ensures ∙ c.if-is_ready.true)) c.set_counter.ensures
 
 pub returns-else-is_ready : goal.returns-else-is_ready
 returns-else-is_ready c =

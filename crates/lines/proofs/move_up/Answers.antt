@@ -41,13 +41,12 @@ pub returns : goal.returns
 returns c =
     let a = c.args in
     let th = c.load_thread-th in
-    let set = c.set_place in
     let there : (s : State) (l : Line) → Holds _ s → a.m ≡ mark_of l → true ≡ in_line l (at s.threads a.j) =
     λ s l h e. sym c.if-not-has_mark.false ∙ c.has_mark.ensures.line s l h e in record {
       bounds = (omega arith, omega arith);
-      whole = set.ensures.whole;
+      whole = c.set_place.ensures.whole;
       count = λ s l h e. ap (λ (b : Bool). if b then 2 * a.power else a.power) (there s l h e);
       table = λ l e. edit_as a.j th.result th.ensures (with_place (th.result.place - 1)) (move_up l a.place)
           (moved_up l a.place th.result
-          (ap (in_line l) (th.ensures (said _) refl) ∙ sym (there (said _) l (whole_holds c.requires.1) e)) c.if-own-place.false) set.ensures;
+          (ap (in_line l) (th.ensures (said _) refl) ∙ sym (there (said _) l (whole_holds c.requires.1) e)) c.if-own-place.false) c.set_place.ensures;
     }

@@ -18,5 +18,4 @@ returns-then-line_length-eq0 c =
 pub returns-else-line_length-eq0 : goal.returns-else-line_length-eq0
 unfolding emptied
 returns-else-line_length-eq0 c =
-    let senders-line = c.senders_line-line in
-    becomes_as c.move_in.ensures (λ s h. rw (← c.line_length.ensures s (senders c.args.r) h.says senders-line.ensures, ne_eqb c.line_length.result 0 c.if-line_length-eq0.false, ← c.first_of-i.ensures s (senders c.args.r) h.says senders-line.ensures))
+    becomes_as c.move_in.ensures (λ s h. rw (← c.line_length.ensures s (senders c.args.r) h.says c.senders_line-line.ensures, ne_eqb c.line_length.result 0 c.if-line_length-eq0.false, ← c.first_of-i.ensures s (senders c.args.r) h.says c.senders_line-line.ensures))

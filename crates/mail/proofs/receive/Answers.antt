@@ -15,13 +15,9 @@ empty_mailbox-requires c = (omega (arith, c.requires.runs, c.running-r.ensures _
 pub returns-then-th : goal.returns-then-th
 unfolding do_receive
 returns-then-th c =
-    let running = c.running-r in
-    let load-thread = c.load_thread-th in
-    let if1 = c.if-th in
-    then_does c.empty_mailbox.ensures c.accept.ensures (λ s h. rw (← running.ensures s h.says, ← load-thread.ensures s h.says, if1.true))
+    then_does c.empty_mailbox.ensures c.accept.ensures (λ s h. rw (← c.running-r.ensures s h.says, ← c.load_thread-th.ensures s h.says, c.if-th.true))
 
 pub returns : goal.returns
 unfolding do_receive
 returns c =
-    let running = c.running-r in
-    does_as (c.must_wait.ensures Receive (ap Receive c.wait_counter-counter.ensures)) (λ s h. rw (← running.ensures s h.says, ← c.load_thread-th.ensures s h.says, c.if-th.false))
+    does_as (c.must_wait.ensures Receive (ap Receive c.wait_counter-counter.ensures)) (λ s h. rw (← c.running-r.ensures s h.says, ← c.load_thread-th.ensures s h.says, c.if-th.false))

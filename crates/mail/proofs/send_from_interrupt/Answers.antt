@@ -12,26 +12,18 @@ returns-then-not-th c = does_nothing c.requires.whole (λ s e. rw (← c.thread_
 pub returns-then-lock-gt0 : goal.returns-then-lock-gt0
 unfolding do_send_from_interrupt
 returns-then-lock-gt0 c =
-    let start = c in
-    does_nothing start.requires.whole (λ s e. rw (← c.thread_at-th.ensures s e, c.if-not-th.false, ← c.lock.ensures s e, lt-ltb 0 c.lock.result c.if-lock-gt0.true))
+    does_nothing c.requires.whole (λ s e. rw (← c.thread_at-th.ensures s e, c.if-not-th.false, ← c.lock.ensures s e, lt-ltb 0 c.lock.result c.if-lock-gt0.true))
 
 pub returns-then-th : goal.returns-then-th
 unfolding do_send_from_interrupt
 returns-then-th c =
-    let start = c in
-    does_nothing start.requires.whole (λ s e. rw (← c.thread_at-th.ensures s e, c.if-not-th.false, ← c.lock.ensures s e, le-ltb 0 c.lock.result c.if-lock-gt0.false, c.if-th.true))
+    does_nothing c.requires.whole (λ s e. rw (← c.thread_at-th.ensures s e, c.if-not-th.false, ← c.lock.ensures s e, le-ltb 0 c.lock.result c.if-lock-gt0.false, c.if-th.true))
 
 pub deliver-requires : goal.deliver-requires
 deliver-requires c =
-    let start = c in
-    (read_there c.requires.whole.long start.args.i c.thread_at-th.ensures c.if-not-th.false, start.requires.whole)
+    (read_there c.requires.whole.long c.args.i c.thread_at-th.ensures c.if-not-th.false, c.requires.whole)
 
 pub returns : goal.returns
 unfolding do_send_from_interrupt
 returns c =
-    let thread-at = c.thread_at-th in
-    let if1 = c.if-not-th in
-    let lock = c.lock in
-    let if2 = c.if-lock-gt0 in
-    let if3 = c.if-th in
-    then_does c.deliver.ensures c.accept.ensures (λ s h. rw (← thread-at.ensures s h.says, if1.false, ← lock.ensures s h.says, le-ltb 0 lock.result if2.false, if3.false))
+    then_does c.deliver.ensures c.accept.ensures (λ s h. rw (← c.thread_at-th.ensures s h.says, c.if-not-th.false, ← c.lock.ensures s h.says, le-ltb 0 c.lock.result c.if-lock-gt0.false, c.if-th.false))

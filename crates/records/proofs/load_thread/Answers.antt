@@ -7,17 +7,13 @@ use Rattle.records.proofs.load_thread.Goals as goal
 
 pub returns : goal.returns
 returns c =
-    let start = c in
-    let word_at = c.word_at-counter in
-    let wait_of_lem = c.wait_of-wait in
-    let outcome_of_lem = c.outcome_of-outcome in
     λ s e.
-    let i = start.args.i in
+    let i = c.args.i in
     sym (thread_made _ _ _ _ _ _ _ _
-    word_at.ensures
-    wait_of_lem.ensures
-    outcome_of_lem.ensures
+    c.word_at-counter.ensures
+    c.wait_of-wait.ensures
+    c.outcome_of-outcome.ensures
     c.word_at-turn.ensures
     c.word_at-value.ensures
     c.word_at-parcel.ensures)
-    ∙ thread_told start.requires.1 e i start.requires.0
+    ∙ thread_told c.requires.1 e i c.requires.0

@@ -22,10 +22,6 @@ shape_of-t c = c.put_word.auto.bytes ∙ simp length-set
 pub returns : goal.returns
 unfolding puts thread_row Within
 returns c =
-    let start = c in
-    let a = start.args in
-    let kind = c.kind_of in
-    let object = c.object_of in
-    let counter = c.counter_of in
-    thread_changed start.requires.1 a.i (with_wait a.w) (put 3 kind.result ∷ put 4 object.result ∷ put_word 12 counter.result ∷ []) start.requires.0 (omega arith)
-    (λ x. rw (kind.ensures, object.ensures, counter.ensures)) c.put_word.ensures
+    let a = c.args in
+    thread_changed c.requires.1 a.i (with_wait a.w) (put 3 c.kind_of.result ∷ put 4 c.object_of.result ∷ put_word 12 c.counter_of.result ∷ []) c.requires.0 (omega arith)
+    (λ x. rw (c.kind_of.ensures, c.object_of.ensures, c.counter_of.ensures)) c.put_word.ensures

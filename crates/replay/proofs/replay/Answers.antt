@@ -35,19 +35,17 @@ loop-record-init c = (refl, refl, started _ _ _ _)
 
 pub serve_record-next-requires : goal.serve_record-next-requires
 serve_record-next-requires c =
-    let loop = c.loop-record in
     let w = whole _ _ _ _ c.read_from.ensures c.in-Record.is in
-    let p = loop.invariant.2 in
+    let p = c.loop-record.invariant.2 in
     record {
-      table_len = loop.invariant.0 ∙ c.requires.table_len;
+      table_len = c.loop-record.invariant.0 ∙ c.requires.table_len;
       request_length_in_bounds = omega (arith, w);
-      line_room_in_bounds = omega (arith, w, p.room, p.place, loop.invariant.1, c.requires.line_room_in_bounds);
+      line_room_in_bounds = omega (arith, w, p.room, p.place, c.loop-record.invariant.1, c.requires.line_room_in_bounds);
     }
 
 pub overflow_add-number : goal.overflow_add-number
 overflow_add-number c =
-    let loop = c.loop-record in
-    omega (arith, loop.invariant.2.count, loop.invariant.2.place, whole _ _ _ _ c.read_from.ensures c.in-Record.is, c.requires.input_bound)
+    omega (arith, c.loop-record.invariant.2.count, c.loop-record.invariant.2.place, whole _ _ _ _ c.read_from.ensures c.in-Record.is, c.requires.input_bound)
 
 pub overflow_add-at : goal.overflow_add-at
 overflow_add-at c = omega (arith, whole _ _ _ _ c.read_from.ensures c.in-Record.is)
@@ -58,9 +56,8 @@ loop-record-smaller c = omega (arith, whole _ _ _ _ c.read_from.ensures c.in-Rec
 pub loop-record-preserved : goal.loop-record-preserved
 loop-record-preserved c =
     let served = c.serve_record-next in
-    let loop = c.loop-record in
     let w = whole _ _ _ _ c.read_from.ensures c.in-Record.is in
-    (served.auto.table ∙ loop.invariant.0, served.auto.out ∙ loop.invariant.1, turned _ _ _ _ loop.invariant.2 _ w.0 w.1 _ _ _ served.ensures.table served.ensures.line served.ensures.room)
+    (served.auto.table ∙ c.loop-record.invariant.0, served.auto.out ∙ c.loop-record.invariant.1, turned _ _ _ _ c.loop-record.invariant.2 _ w.0 w.1 _ _ _ served.ensures.table served.ensures.line served.ensures.room)
 
 pub returns : goal.returns
 returns c = ended _ _ _ _ c.loop-record.invariant.2 (none_whole c.args.input.now c.loop-record.at c.read_from.result c.in_default.in_default-own.keys2 c.read_from.ensures)

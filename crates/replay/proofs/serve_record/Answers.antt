@@ -22,7 +22,6 @@ overflow_cast-running c = omega (arith, c.slice_known-3-1.given 576, c.running-r
 
 pub returns : goal.returns
 returns c =
-    let put = c.put_line in
     let called = c.speltmallet_door-code in
     let part : c.args.at + request_length - c.args.at ≡ request_length = omega arith in
     let served = ap (λ b. door b c.args.table.now (take request_length (drop c.args.at c.args.input.now)) clean_area) (printer_board _ c.requires.table_len) in
@@ -30,9 +29,9 @@ returns c =
     let table = rw part at called.ensures.table ∙ ap (λ d. d.table) served in
     let area = rw part at called.ensures.area ∙ ap (λ d. d.area) served in
     let running = c.running-running.ensures _ (said_printer _ (called.auto.table ∙ c.requires.table_len)) in
-    let line = rw (to_z-of_z w32 _ (record { sfits = called.type_inv })) at put.ensures.puts in
+    let line = rw (to_z-of_z w32 _ (record { sfits = called.type_inv })) at c.put_line.ensures.puts in
     record {
       table = table;
       line = line_put printer _ _ _ _ _ _ _ _ _ _ _ code area c.word_at-value.ensures table running line;
-      room = put.ensures.upper_bound;
+      room = c.put_line.ensures.upper_bound;
     }

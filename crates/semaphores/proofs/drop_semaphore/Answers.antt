@@ -13,16 +13,9 @@ returns-then-not-e c = does_nothing c.requires.whole (λ s e. rw (← c.sem_at-e
 
 pub set_sem-requires : goal.set_sem-requires
 set_sem-requires c =
-    let sem-at = c.sem_at-e in
-    let if1 = c.if-not-e in
-    (omega (arith, sem_there c.requires.whole.long c.args.k sem-at.ensures if1.false, c.serve.auto), (c.serve.ensures (waiters c.args.k) c.waiters_line-line.ensures).whole)
+    (omega (arith, sem_there c.requires.whole.long c.args.k c.sem_at-e.ensures c.if-not-e.false, c.serve.auto), (c.serve.ensures (waiters c.args.k) c.waiters_line-line.ensures).whole)
 
 pub returns : goal.returns
 unfolding do_drop
 returns c =
-    let sem-at = c.sem_at-e in
-    let if1 = c.if-not-e in
-    let waiters-line = c.waiters_line-line in
-    let line-length = c.line_length-n in
-    let serve = c.serve in
-    then_does (serve.ensures (waiters c.args.k) waiters-line.ensures ⨾ c.set_sem.ensures) c.accept.ensures (λ s h. rw (← sem-at.ensures s h.says, if1.false, ← line-length.ensures s (waiters c.args.k) h.says waiters-line.ensures))
+    then_does (c.serve.ensures (waiters c.args.k) c.waiters_line-line.ensures ⨾ c.set_sem.ensures) c.accept.ensures (λ s h. rw (← c.sem_at-e.ensures s h.says, c.if-not-e.false, ← c.line_length-n.ensures s (waiters c.args.k) h.says c.waiters_line-line.ensures))

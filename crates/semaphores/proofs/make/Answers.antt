@@ -27,7 +27,4 @@ set_count-requires c = (omega (arith, c.semaphores.ensures), c.requires.whole)
 pub returns : goal.returns
 unfolding do_make
 returns c =
-    let load-sem = c.load_sem-e in
-    let if2 = c.if-e in
-    let if3 = c.if-n-gt-MOST_COUNT in
-    then_does c.set_count.ensures c.accept.ensures (λ s h. rw (lt-leb (length s.sems) c.args.k (omega (arith, c.semaphores.ensures, (holds_sized h).sems)), ← load-sem.ensures s h.says, if2.false, le-ltb most_count c.args.n if3.false))
+    then_does c.set_count.ensures c.accept.ensures (λ s h. rw (lt-leb (length s.sems) c.args.k (omega (arith, c.semaphores.ensures, (holds_sized h).sems)), ← c.load_sem-e.ensures s h.says, c.if-e.false, le-ltb most_count c.args.n c.if-n-gt-MOST_COUNT.false))

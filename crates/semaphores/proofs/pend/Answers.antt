@@ -18,20 +18,14 @@ returns-then-not-e c = does_nothing c.requires.whole (λ s e. rw (← c.sem_at-e
 
 pub set_count-requires : goal.set_count-requires
 set_count-requires c =
-    let start = c in
-    (sem_there c.requires.whole.long start.args.k c.sem_at-e.ensures c.if-not-e.false, start.requires.whole)
+    (sem_there c.requires.whole.long c.args.k c.sem_at-e.ensures c.if-not-e.false, c.requires.whole)
 
 pub returns-then-e-gt0 : goal.returns-then-e-gt0
 unfolding do_pend
 returns-then-e-gt0 c =
-    let sem-at = c.sem_at-e in
-    let if1 = c.if-not-e in
-    let if2 = c.if-e-gt0 in
-    then_does c.set_count.ensures c.accept.ensures (λ s h. rw (← sem-at.ensures s h.says, count_of, if1.false, lt-ltb 0 sem-at.result.count if2.true, one_less sem-at.result.count))
+    then_does c.set_count.ensures c.accept.ensures (λ s h. rw (← c.sem_at-e.ensures s h.says, count_of, c.if-not-e.false, lt-ltb 0 c.sem_at-e.result.count c.if-e-gt0.true, one_less c.sem_at-e.result.count))
 
 pub returns : goal.returns
 unfolding do_pend
 returns c =
-    let start = c in
-    let sem-at = c.sem_at-e in
-    does_as (c.must_wait.ensures (Semaphore start.args.k) (ap (Semaphore start.args.k) c.wait_counter-counter.ensures)) (λ s h. rw (← sem-at.ensures s h.says, count_of, c.if-not-e.false, le-ltb 0 sem-at.result.count c.if-e-gt0.false))
+    does_as (c.must_wait.ensures (Semaphore c.args.k) (ap (Semaphore c.args.k) c.wait_counter-counter.ensures)) (λ s h. rw (← c.sem_at-e.ensures s h.says, count_of, c.if-not-e.false, le-ltb 0 c.sem_at-e.result.count c.if-e-gt0.false))

@@ -15,39 +15,21 @@ returns-then-not-e c = does_nothing c.requires.whole (λ s e. rw (← c.sem_at-e
 pub returns-then-too_many : goal.returns-then-too_many
 unfolding do_post
 returns-then-too_many c =
-    let sem-at = c.sem_at-e in
-    let waiters-line = c.waiters_line-line in
-    let line-length = c.line_length in
-    does_nothing c.requires.whole (λ s e. rw (← sem-at.ensures s e, too_many, count_after, served_by, count_of, c.if-not-e.false, ← line-length.ensures s (waiters c.args.k) e waiters-line.ensures, ← c.served_by-served.ensures, ← c.too_many.ensures, c.if-too_many.true))
+    does_nothing c.requires.whole (λ s e. rw (← c.sem_at-e.ensures s e, too_many, count_after, served_by, count_of, c.if-not-e.false, ← c.line_length.ensures s (waiters c.args.k) e c.waiters_line-line.ensures, ← c.served_by-served.ensures, ← c.too_many.ensures, c.if-too_many.true))
 
 pub overflow_cast-over-2 : goal.overflow_cast-over-2
 overflow_cast-over-2 c =
-    let sem-at = c.sem_at-e in
-    let served-by = c.served_by-served in
-    omega (arith, sum_fits sem-at.result.count c.args.n (c.args.n - served-by.result) c.too_many.ensures c.if-too_many.false)
+    omega (arith, sum_fits c.sem_at-e.result.count c.args.n (c.args.n - c.served_by-served.result) c.too_many.ensures c.if-too_many.false)
 
 pub overflow_add-e : goal.overflow_add-e
 overflow_add-e c =
-    let sem-at = c.sem_at-e in
-    let served-by = c.served_by-served in
-    omega (arith, sum_fits sem-at.result.count c.args.n (c.args.n - served-by.result) c.too_many.ensures c.if-too_many.false)
+    omega (arith, sum_fits c.sem_at-e.result.count c.args.n (c.args.n - c.served_by-served.result) c.too_many.ensures c.if-too_many.false)
 
 pub set_count-requires : goal.set_count-requires
 set_count-requires c =
-    let sem-at = c.sem_at-e in
-    let if1 = c.if-not-e in
-    let waiters-line = c.waiters_line-line in
-    (omega (arith, sem_there c.requires.whole.long c.args.k sem-at.ensures if1.false, c.serve.auto), (c.serve.ensures (waiters c.args.k) waiters-line.ensures).whole)
+    (omega (arith, sem_there c.requires.whole.long c.args.k c.sem_at-e.ensures c.if-not-e.false, c.serve.auto), (c.serve.ensures (waiters c.args.k) c.waiters_line-line.ensures).whole)
 
 pub returns : goal.returns
 unfolding posted do_post
 returns c =
-    let sem-at = c.sem_at-e in
-    let if1 = c.if-not-e in
-    let waiters-line = c.waiters_line-line in
-    let line-length = c.line_length in
-    let served-by = c.served_by-served in
-    let too_many = c.too_many in
-    let if2 = c.if-too_many in
-    let serve = c.serve in
-    then_does (serve.ensures (waiters c.args.k) waiters-line.ensures ⨾ c.set_count.ensures) c.accept.ensures (λ s h. rw (← sem-at.ensures s h.says, too_many, count_after, served_by, count_of, if1.false, ← line-length.ensures s (waiters c.args.k) h.says waiters-line.ensures, ← served-by.ensures, ← too_many.ensures, if2.false))
+    then_does (c.serve.ensures (waiters c.args.k) c.waiters_line-line.ensures ⨾ c.set_count.ensures) c.accept.ensures (λ s h. rw (← c.sem_at-e.ensures s h.says, c.too_many, count_after, served_by, count_of, c.if-not-e.false, ← c.line_length.ensures s (waiters c.args.k) h.says c.waiters_line-line.ensures, ← c.served_by-served.ensures, ← c.too_many.ensures, c.if-too_many.false))

@@ -11,11 +11,9 @@ returns-then-not-e c = does_nothing c.requires.whole (λ s e. rw (← c.sem_at-e
 pub returns-then-lock-gt0 : goal.returns-then-lock-gt0
 unfolding do_post_from_interrupt
 returns-then-lock-gt0 c =
-    let start = c in
-    does_nothing start.requires.whole (λ s e. rw (← c.sem_at-e.ensures s e, c.if-not-e.false, ← c.lock.ensures s e, lt-ltb 0 c.lock.result c.if-lock-gt0.true))
+    does_nothing c.requires.whole (λ s e. rw (← c.sem_at-e.ensures s e, c.if-not-e.false, ← c.lock.ensures s e, lt-ltb 0 c.lock.result c.if-lock-gt0.true))
 
 pub returns : goal.returns
 unfolding do_post_from_interrupt
 returns c =
-    let sem-at = c.sem_at-e in
-    does_as c.post.ensures (λ s h. rw (← sem-at.ensures s h.says, c.if-not-e.false, ← c.lock.ensures s h.says, le-ltb 0 c.lock.result c.if-lock-gt0.false))
+    does_as c.post.ensures (λ s h. rw (← c.sem_at-e.ensures s h.says, c.if-not-e.false, ← c.lock.ensures s h.says, le-ltb 0 c.lock.result c.if-lock-gt0.false))

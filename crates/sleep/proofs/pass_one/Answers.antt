@@ -9,11 +9,10 @@ use Rattle.sleep.proofs.pass_one.Goals as goal
 pub returns-then-is_waiting : goal.returns-then-is_waiting
 returns-then-is_waiting c =
     let th = c.load_thread-th in
-    let less = c.less in
     let m = c.args.m in
-    edit_as c.args.i th.result th.ensures (with_counter less.result) (later m)
+    edit_as c.args.i th.result th.ensures (with_counter c.less.result) (later m)
     (rw (sym c.is_waiting.ensures ∙ c.if-is_waiting.true)
-    (ap (λ k. with_counter k th.result) (less.ensures ∙ ap (λ k. k - m) c.counter_of-c.ensures)))
+    (ap (λ k. with_counter k th.result) (c.less.ensures ∙ ap (λ k. k - m) c.counter_of-c.ensures)))
     c.set_counter.ensures
 
 pub returns-else-is_waiting : goal.returns-else-is_waiting

@@ -32,9 +32,4 @@ create_thread-requires c = (omega (arith, c.threads.ensures), c.requires.whole)
 pub returns : goal.returns
 unfolding do_create
 returns c =
-    let if1 = c.if-priority-gt-TOP_PRIORITY in
-    let bad-ticks = c.bad_ticks in
-    let if2 = c.if-bad_ticks in
-    let load-thread = c.load_thread-th in
-    let if4 = c.if-th in
-    then_does c.create_thread.ensures c.accept.ensures (λ s h. rw (le-ltb top_priority c.args.priority if1.false, ← bad-ticks.ensures, if2.false, lt-leb (length s.threads) c.args.i (omega (arith, c.threads.ensures, (holds_sized h).threads)), ← load-thread.ensures s h.says, if4.false))
+    then_does c.create_thread.ensures c.accept.ensures (λ s h. rw (le-ltb top_priority c.args.priority c.if-priority-gt-TOP_PRIORITY.false, ← c.bad_ticks.ensures, c.if-bad_ticks.false, lt-leb (length s.threads) c.args.i (omega (arith, c.threads.ensures, (holds_sized h).threads)), ← c.load_thread-th.ensures s h.says, c.if-th.false))

@@ -14,5 +14,4 @@ returns-then-may_not_wait c = does_nothing c.requires.whole (λ s e. rw (← c.b
 pub returns : goal.returns
 unfolding do_delay
 returns c =
-    let bad-ticks = c.bad_ticks in
-    does_as c.block.ensures (λ s h. rw (← bad-ticks.ensures, c.if-bad_ticks.false, ← c.may_not_wait.ensures s h.says, c.if-may_not_wait.false))
+    does_as c.block.ensures (λ s h. rw (← c.bad_ticks.ensures, c.if-bad_ticks.false, ← c.may_not_wait.ensures s h.says, c.if-may_not_wait.false))

@@ -14,14 +14,9 @@ returns-then-is_bound c = does_nothing c.requires.whole (λ s e. rw (← c.no_th
 
 pub delete_thread-requires : goal.delete_thread-requires
 delete_thread-requires c =
-    let start = c in
-    (there c.requires.whole.long start.args.i c.no_thread.ensures c.if-no_thread.false, start.requires.whole)
+    (there c.requires.whole.long c.args.i c.no_thread.ensures c.if-no_thread.false, c.requires.whole)
 
 pub returns : goal.returns
 unfolding do_delete
 returns c =
-    let no_thread_lem = c.no_thread in
-    let if1 = c.if-no_thread in
-    let is_bound = c.is_bound in
-    let if2 = c.if-is_bound in
-    then_does c.delete_thread.ensures c.accept.ensures (λ s h. rw (← no_thread_lem.ensures s h.says, if1.false, ← is_bound.ensures s h.says, if2.false))
+    then_does c.delete_thread.ensures c.accept.ensures (λ s h. rw (← c.no_thread.ensures s h.says, c.if-no_thread.false, ← c.is_bound.ensures s h.says, c.if-is_bound.false))

@@ -28,24 +28,13 @@ edit_suspended-requires c =
 pub returns-then-is_waiting : goal.returns-then-is_waiting
 unfolding do_resume
 returns-then-is_waiting c =
-    let thread-at = c.thread_at-th in
-    let if1 = c.if-not-th in
-    let if2 = c.if-not-th-2 in
-    let is-waiting = c.is_waiting in
-    let if3 = c.if-is_waiting in
-    then_does c.edit_suspended.ensures c.accept.ensures (λ s h. rw (← thread-at.ensures s h.says, if1.false, if2.false, ← is-waiting.ensures, if3.true))
+    then_does c.edit_suspended.ensures c.accept.ensures (λ s h. rw (← c.thread_at-th.ensures s h.says, c.if-not-th.false, c.if-not-th-2.false, ← c.is_waiting.ensures, c.if-is_waiting.true))
 
 pub restart-requires : goal.restart-requires
 restart-requires c =
-    let start = c in
-    (read_there c.requires.whole.long start.args.i c.thread_at-th.ensures c.if-not-th.false, start.requires.whole)
+    (read_there c.requires.whole.long c.args.i c.thread_at-th.ensures c.if-not-th.false, c.requires.whole)
 
 pub returns : goal.returns
 unfolding do_resume
 returns c =
-    let thread-at = c.thread_at-th in
-    let if1 = c.if-not-th in
-    let if2 = c.if-not-th-2 in
-    let is-waiting = c.is_waiting in
-    let if3 = c.if-is_waiting in
-    then_does c.restart.ensures c.accept-2.ensures (λ s h. rw (← thread-at.ensures s h.says, if1.false, if2.false, ← is-waiting.ensures, if3.false))
+    then_does c.restart.ensures c.accept-2.ensures (λ s h. rw (← c.thread_at-th.ensures s h.says, c.if-not-th.false, c.if-not-th-2.false, ← c.is_waiting.ensures, c.if-is_waiting.false))

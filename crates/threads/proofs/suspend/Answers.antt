@@ -21,26 +21,16 @@ returns-then-th c = does_nothing c.requires.whole (λ s e. rw (← c.thread_at-t
 pub returns-then-is_bound : goal.returns-then-is_bound
 unfolding do_suspend
 returns-then-is_bound c =
-    let start = c in
-    does_nothing start.requires.whole (λ s e. rw (← c.thread_at-th.ensures s e, c.if-not-th.false, c.if-th.false, ← c.is_bound.ensures s e, c.if-is_bound.true))
+    does_nothing c.requires.whole (λ s e. rw (← c.thread_at-th.ensures s e, c.if-not-th.false, c.if-th.false, ← c.is_bound.ensures s e, c.if-is_bound.true))
 
 pub stop-requires : goal.stop-requires
 stop-requires c =
-    let start = c in
-    let thread-at = c.thread_at-th in
-    (read_there c.requires.whole.long start.args.i thread-at.ensures c.if-not-th.false, start.requires.whole)
+    (read_there c.requires.whole.long c.args.i c.thread_at-th.ensures c.if-not-th.false, c.requires.whole)
 
 pub returns-then-is_ready : goal.returns-then-is_ready
 unfolding do_suspend
 returns-then-is_ready c =
-    let thread-at = c.thread_at-th in
-    let if1 = c.if-not-th in
-    let if2 = c.if-th in
-    let is_bound = c.is_bound in
-    let if3 = c.if-is_bound in
-    let is_ready_lem = c.is_ready in
-    let if4 = c.if-is_ready in
-    then_does c.stop.ensures c.accept.ensures (λ s h. rw (← thread-at.ensures s h.says, ← is_ready_lem.ensures, if4.true, if1.false, if2.false, ← is_bound.ensures s h.says, if3.false))
+    then_does c.stop.ensures c.accept.ensures (λ s h. rw (← c.thread_at-th.ensures s h.says, ← c.is_ready.ensures, c.if-is_ready.true, c.if-not-th.false, c.if-th.false, ← c.is_bound.ensures s h.says, c.if-is_bound.false))
 
 pub edit_suspended-requires : goal.edit_suspended-requires
 edit_suspended-requires c =
@@ -54,11 +44,4 @@ edit_suspended-requires c =
 pub returns : goal.returns
 unfolding do_suspend
 returns c =
-    let thread-at = c.thread_at-th in
-    let if1 = c.if-not-th in
-    let if2 = c.if-th in
-    let is_bound = c.is_bound in
-    let if3 = c.if-is_bound in
-    let is_ready_lem = c.is_ready in
-    let if4 = c.if-is_ready in
-    then_does c.edit_suspended.ensures c.accept-2.ensures (λ s h. rw (← thread-at.ensures s h.says, ← is_ready_lem.ensures, if4.false, if1.false, if2.false, ← is_bound.ensures s h.says, if3.false))
+    then_does c.edit_suspended.ensures c.accept-2.ensures (λ s h. rw (← c.thread_at-th.ensures s h.says, ← c.is_ready.ensures, c.if-is_ready.false, c.if-not-th.false, c.if-th.false, ← c.is_bound.ensures s h.says, c.if-is_bound.false))

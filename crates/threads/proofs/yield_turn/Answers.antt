@@ -18,6 +18,4 @@ to_tail-requires c = (omega (arith, c.running-i.ensures _ refl), c.requires.whol
 pub returns : goal.returns
 unfolding do_yield
 returns c =
-    let lock = c.lock in
-    let running = c.running-i in
-    then_does c.to_tail.ensures c.accept-2.ensures (λ s h. rw (le-ltb 0 s.lock (omega (arith, lock.ensures s h.says))) (ap (λ i. accept_threads s (move i (λ x. x) s.threads)) (sym (running.ensures s h.says))))
+    then_does c.to_tail.ensures c.accept-2.ensures (λ s h. rw (le-ltb 0 s.lock (omega (arith, c.lock.ensures s h.says))) (ap (λ i. accept_threads s (move i (λ x. x) s.threads)) (sym (c.running-i.ensures s h.says))))

@@ -16,14 +16,9 @@ returns-then-c-eq0 c = becomes_same c.requires.1 (λ s h. rw (← c.load_thread-
 pub returns-then-c-eq1 : goal.returns-then-c-eq1
 unfolding count_down
 returns-then-c-eq1 c =
-    let load-thread = c.load_thread-th in
-    let is-waiting = c.is_waiting in
-    let if1 = c.if-not-is_waiting in
-    becomes_as c.end_wait.ensures (λ s h. rw (← load-thread.ensures s h.says, ← is-waiting.ensures, if1.false, ← c.counter_of-c.ensures, c.if-c-eq1.true, c.timed_out.ensures))
+    becomes_as c.end_wait.ensures (λ s h. rw (← c.load_thread-th.ensures s h.says, ← c.is_waiting.ensures, c.if-not-is_waiting.false, ← c.counter_of-c.ensures, c.if-c-eq1.true, c.timed_out.ensures))
 
 pub returns : goal.returns
 unfolding count_down
 returns c =
-    let load-thread = c.load_thread-th in
-    let is-waiting = c.is_waiting in
-    becomes_as c.set_counter.ensures (λ s h. rw (← load-thread.ensures s h.says, ← is-waiting.ensures, c.if-not-is_waiting.false, ← c.counter_of-c.ensures, ne_eqb _ _ c.if-c-eq0.false, ne_eqb _ _ c.if-c-eq1.false, sub-one))
+    becomes_as c.set_counter.ensures (λ s h. rw (← c.load_thread-th.ensures s h.says, ← c.is_waiting.ensures, c.if-not-is_waiting.false, ← c.counter_of-c.ensures, ne_eqb _ _ c.if-c-eq0.false, ne_eqb _ _ c.if-c-eq1.false, sub-one))

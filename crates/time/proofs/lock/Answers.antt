@@ -15,5 +15,4 @@ returns-then-n-ge-MOST_LOCK c = does_nothing c.requires.whole (λ s e. rw (le-le
 pub returns : goal.returns
 unfolding do_lock
 returns c =
-    let lock = c.lock-n in
-    then_does c.set_lock.ensures c.accept.ensures (λ s h. let n = lock.ensures s h.says in let m : suc s.lock ≡ lock.result + 1 = omega (arith, n) in rw (lt-leb most_lock s.lock (omega (arith, n)), m))
+    then_does c.set_lock.ensures c.accept.ensures (λ s h. let n = c.lock-n.ensures s h.says in let m : suc s.lock ≡ c.lock-n.result + 1 = omega (arith, n) in rw (lt-leb most_lock s.lock (omega (arith, n)), m))

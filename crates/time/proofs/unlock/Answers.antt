@@ -13,6 +13,4 @@ returns-then-n-eq0 c = does_nothing c.requires.whole (λ s e. rw (eq-eqb s.lock 
 pub returns : goal.returns
 unfolding do_unlock
 returns c =
-    let lock = c.lock-n in
-    let if1 = c.if-n-eq0 in
-    then_does c.set_lock.ensures c.accept.ensures (λ s h. let n = lock.ensures s h.says in rw (ne_eqb s.lock 0 (λ z. if1.false (n ∙ z)), sub-one, n))
+    then_does c.set_lock.ensures c.accept.ensures (λ s h. let n = c.lock-n.ensures s h.says in rw (ne_eqb s.lock 0 (λ z. c.if-n-eq0.false (n ∙ z)), sub-one, n))

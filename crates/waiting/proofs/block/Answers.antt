@@ -20,14 +20,11 @@ change_wait-place-requires c = (omega (arith, c.running-i.ensures _ refl), c.req
 pub returns : goal.returns
 unfolding block
 returns c =
-    let start = c in
-    let running = c.running-i in
-    let change = c.change_wait-place in
-    let w = start.args.w in
-    let x = start.args.parcel in
+    let w = c.args.w in
+    let x = c.args.parcel in
     let told : (s : State) → Holds _ s → ahead s w ≡ c.ahead_of-ahead.result = λ s h.
-    ahead_place s w x (subst Sound h.says start.requires.1.sound) start.requires.0
-    ∙ ap (λ i. pred (at (move i (begun w x) s.threads) i).place) (sym (running.ensures s h.says))
-    ∙ ap pred (sym (change.ensures.place (with_threads (move running.result (begun w x) s.threads) s) (change.ensures.table.holds s h).says))
+    ahead_place s w x (subst Sound h.says c.requires.1.sound) c.requires.0
+    ∙ ap (λ i. pred (at (move i (begun w x) s.threads) i).place) (sym (c.running-i.ensures s h.says))
+    ∙ ap pred (sym (c.change_wait-place.ensures.place (with_threads (move c.running-i.result (begun w x) s.threads) s) (c.change_wait-place.ensures.table.holds s h).says))
     ∙ sym c.ahead_of-ahead.ensures in
-    does (change.ensures.table ⨾ c.settle.ensures) (λ s h j. gives (settle (with_threads (move (sym (running.ensures s h.says) j) (begun w x) s.threads) s)) (Blocked (told s h j)))
+    does (c.change_wait-place.ensures.table ⨾ c.settle.ensures) (λ s h j. gives (settle (with_threads (move (sym (c.running-i.ensures s h.says) j) (begun w x) s.threads) s)) (Blocked (told s h j)))

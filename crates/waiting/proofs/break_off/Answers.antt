@@ -18,7 +18,4 @@ end_wait-requires c = (there c.requires.whole.long c.args.i c.no_thread.ensures 
 pub returns : goal.returns
 unfolding break_off
 returns c =
-    let no_thread_lem = c.no_thread in
-    let if1 = c.if-no_thread in
-    let if2 = c.if-not-named in
-    then_does c.end_wait.ensures c.accept.ensures (λ s h. rw (← no_thread_lem.ensures s h.says, if1.false, if2.false))
+    then_does c.end_wait.ensures c.accept.ensures (λ s h. rw (← c.no_thread.ensures s h.says, c.if-no_thread.false, c.if-not-named.false))

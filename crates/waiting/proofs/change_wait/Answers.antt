@@ -10,10 +10,7 @@ use Rattle.waiting.proofs.change_wait.Goals as goal
 pub returns : goal.returns
 unfolding move
 returns c =
-    let leave = c.leave-left in
-    let set-wait = c.set_wait in
-    let set-outcome = c.set_outcome in
-    let join = c.join in record {
-      place = joined c.args.i (omega (arith, c.requires.0, leave.auto, set-wait.auto, set-outcome.auto)) set-outcome.ensures.whole join.ensures.place join.ensures.table;
-      table = leave.ensures.table ⨾ edits c.args.i (with_wait c.args.w) (with_outcome c.args.outcome c.args.parcel) (omega (arith, c.requires.0, leave.auto)) set-wait.ensures set-outcome.ensures ⨾ join.ensures.table;
+    record {
+      place = joined c.args.i (omega (arith, c.requires.0, c.leave-left.auto, c.set_wait.auto, c.set_outcome.auto)) c.set_outcome.ensures.whole c.join.ensures.place c.join.ensures.table;
+      table = c.leave-left.ensures.table ⨾ edits c.args.i (with_wait c.args.w) (with_outcome c.args.outcome c.args.parcel) (omega (arith, c.requires.0, c.leave-left.auto)) c.set_wait.ensures c.set_outcome.ensures ⨾ c.join.ensures.table;
     }

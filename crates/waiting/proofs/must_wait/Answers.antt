@@ -16,5 +16,4 @@ returns-then-may_not_wait c = λ kind e. does_nothing c.requires.1.whole (λ s d
 pub returns : goal.returns
 unfolding must_wait
 returns c =
-    let start = c in
-    λ kind e. does_as c.block.ensures (λ s h. rw (ne_eqb start.args.n 0 c.if-n-eq0.false, sym (c.may_not_wait.ensures s h.says) ∙ c.if-may_not_wait.false) (ap (λ w. block s w start.args.parcel) (sym e)))
+    λ kind e. does_as c.block.ensures (λ s h. rw (ne_eqb c.args.n 0 c.if-n-eq0.false, sym (c.may_not_wait.ensures s h.says) ∙ c.if-may_not_wait.false) (ap (λ w. block s w c.args.parcel) (sym e)))

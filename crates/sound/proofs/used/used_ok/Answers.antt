@@ -23,5 +23,4 @@ returns-then-not-object_ok c s e = rw (← used_test_lem, sym c.settings_ok.ensu
 pub returns : goal.returns
 unfolding used_test
 returns c s e =
-    let settings-ok = c.settings_ok in
-    rw (← used_test_lem, sym settings-ok.ensures ∙ c.if-not-settings_ok.false, sym c.mail_ok.ensures ∙ c.if-not-mail_ok.false, sym c.counter_ok.ensures ∙ c.if-not-counter_ok.false, sym (c.object_ok.ensures s e) ∙ c.if-not-object_ok.false) c.outcome_ok.ensures
+    rw (← used_test_lem, sym c.settings_ok.ensures ∙ c.if-not-settings_ok.false, sym c.mail_ok.ensures ∙ c.if-not-mail_ok.false, sym c.counter_ok.ensures ∙ c.if-not-counter_ok.false, sym (c.object_ok.ensures s e) ∙ c.if-not-object_ok.false) c.outcome_ok.ensures

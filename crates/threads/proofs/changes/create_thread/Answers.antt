@@ -6,5 +6,4 @@ use Rattle.threads.proofs.changes.create_thread.Goals as goal
 pub returns : goal.returns
 unfolding move
 returns c =
-    let leave = c.leave-left in
-    leave.ensures.table ⨾ c.store_thread.ensures ⨾ c.join.ensures.table
+    c.leave-left.ensures.table ⨾ c.store_thread.ensures ⨾ c.join.ensures.table

@@ -11,9 +11,4 @@ use Rattle.threads.proofs.changes.delete_thread.Goals as goal
 pub returns : goal.returns
 unfolding move deleted
 returns c =
-    let start = c in
-    let senders-line = c.senders_line-line in
-    let line-length = c.line_length-n in
-    let leave = c.leave-left in
-    let free-thread = c.free_thread in
-    let i = start.args.i in becomes_as (leave.ensures.table ⨾ free-thread.ensures ⨾ c.join.ensures.table ⨾ c.serve.ensures (senders i) senders-line.ensures) (λ s h. ap (λ n. with_threads (serve n (senders i) Failed (move i (λ x. free) s.threads)) s) (line-length.ensures s (senders i) h.says senders-line.ensures))
+    let i = c.args.i in becomes_as (c.leave-left.ensures.table ⨾ c.free_thread.ensures ⨾ c.join.ensures.table ⨾ c.serve.ensures (senders i) c.senders_line-line.ensures) (λ s h. ap (λ n. with_threads (serve n (senders i) Failed (move i (λ x. free) s.threads)) s) (c.line_length-n.ensures s (senders i) h.says c.senders_line-line.ensures))

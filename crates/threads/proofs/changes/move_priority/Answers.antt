@@ -6,5 +6,4 @@ use Rattle.threads.proofs.changes.move_priority.Goals as goal
 pub returns : goal.returns
 unfolding move
 returns c =
-    let leave = c.leave-left in
-    leave.ensures.table ⨾ c.set_priority.ensures ⨾ c.join.ensures.table
+    c.leave-left.ensures.table ⨾ c.set_priority.ensures ⨾ c.join.ensures.table
