@@ -29,9 +29,17 @@ shape_of-out-then-turned-written c = c.close-then-turned-written.auto.out ∙ c.
 
 pub returns-then-turned-written : goal.returns-then-turned-written
 returns-then-turned-written c =
-    turned_end c.loop-reads.block c.read_behind-come.new.block c.loop-reads.held c.read_behind-come.result.n c.read_behind-come.ensures.held c.read_behind-come.ensures.within.0 c.read_behind-come.ensures.within.1 c.loop-reads.invariant.5 c.turn-turned.ensures.number c.turn-turned.ensures.held c.turn-turned.ensures.block c.turn-turned.result.stopped c.turn-turned.ensures.stopped
+    turned_end c.loop-reads.block c.read_behind-come.new.block c.loop-reads.held c.read_behind-come.result.n c.read_behind-come.ensures.held c.read_behind-come.ensures.within.0 c.read_behind-come.ensures.within.1
+    c.loop-reads.invariant.5 c.turn-turned.ensures.number c.turn-turned.ensures.held c.turn-turned.ensures.block c.turn-turned.result.stopped c.turn-turned.ensures.stopped
     c.close-then-turned-written.ensures.counts.0 c.close-then-turned-written.ensures.counts.1 c.close-then-turned-written.ensures.counts.2 (omega (arith, c.close-then-turned-written.ensures.room, c.turn-turned.auto.out, c.loop-reads.invariant.0, c.requires.out_len))
-    (omega (arith, c.turn-turned.ensures.held, holds_room c.args.way (take c.read_behind-come.result.n c.read_behind-come.new.block), length-take-le c.read_behind-come.result.n c.read_behind-come.new.block c.read_behind-come.ensures.within.1, c.read_behind-come.ensures.within, c.turn-turned.auto.block))
+    (omega (
+      arith,
+      c.turn-turned.ensures.held,
+      holds_room c.args.way (take c.read_behind-come.result.n c.read_behind-come.new.block),
+      length-take-le c.read_behind-come.result.n c.read_behind-come.new.block c.read_behind-come.ensures.within.1,
+      c.read_behind-come.ensures.within,
+      c.turn-turned.auto.block,
+    ))
     c.close-then-turned-written.ensures.line
 
 pub loop-reads-preserved : goal.loop-reads-preserved
@@ -43,7 +51,8 @@ loop-reads-preserved c =
       omega (arith, c.turn-turned.ensures.held, holds_room c.args.way (take c.read_behind-come.result.n c.read_behind-come.new.block), size, c.read_behind-come.ensures.within, c.read_behind-come.auto.block, c.loop-reads.invariant.1, c.requires.block_len),
       omega (arith, c.turn-turned.ensures.few, c.read_behind-come.ensures.within, c.read_behind-come.auto.block, c.loop-reads.invariant.1, c.loop-reads.invariant.3, c.requires.block_len, some),
       omega (arith, c.read_behind-come.ensures.within, c.read_behind-come.auto.block, c.loop-reads.invariant.1, c.loop-reads.invariant.4, c.requires.block_len, some),
-      turned_on c.loop-reads.block c.read_behind-come.new.block c.loop-reads.held c.read_behind-come.result.n c.read_behind-come.ensures.held c.read_behind-come.ensures.within.0 c.read_behind-come.ensures.within.1 c.loop-reads.invariant.5 c.turn-turned.ensures.number c.turn-turned.ensures.held c.turn-turned.ensures.block (sym c.turn-turned.ensures.stopped ∙ (or_false c.turn-turned.result.stopped (not c.write_front-written.result) c.if-turned-written.false).0),
+      turned_on c.loop-reads.block c.read_behind-come.new.block c.loop-reads.held c.read_behind-come.result.n c.read_behind-come.ensures.held c.read_behind-come.ensures.within.0 c.read_behind-come.ensures.within.1
+          c.loop-reads.invariant.5 c.turn-turned.ensures.number c.turn-turned.ensures.held c.turn-turned.ensures.block (sym c.turn-turned.ensures.stopped ∙ (or_false c.turn-turned.result.stopped (not c.write_front-written.result) c.if-turned-written.false).0),
     )
 
 pub returns : goal.returns

@@ -32,4 +32,15 @@ set_count-requires c =
 pub returns : goal.returns
 unfolding posted do_post
 returns c =
-    then_does (c.serve.ensures (waiters c.args.k) c.waiters_line-line.ensures ⨾ c.set_count.ensures) c.accept.ensures (λ s h. rw (← c.sem_at-e.ensures s h.says, c.too_many, count_after, served_by, count_of, c.if-not-e.false, ← c.line_length.ensures s (waiters c.args.k) h.says c.waiters_line-line.ensures, ← c.served_by-served.ensures, ← c.too_many.ensures, c.if-too_many.false))
+    then_does (c.serve.ensures (waiters c.args.k) c.waiters_line-line.ensures ⨾ c.set_count.ensures) c.accept.ensures (λ s h. rw (
+      ← c.sem_at-e.ensures s h.says,
+      too_many,
+      count_after,
+      served_by,
+      count_of,
+      c.if-not-e.false,
+      ← c.line_length.ensures s (waiters c.args.k) h.says c.waiters_line-line.ensures,
+      ← c.served_by-served.ensures,
+      ← c.too_many.ensures,
+      c.if-too_many.false,
+    ))

@@ -22,7 +22,21 @@ pub put_used-e-requires : goal.put_used-e-requires
 put_used-e-requires c = omega (arith, room_8 c.ranges.operation)
 
 pub put_byte-requires : goal.put_byte-requires
-put_byte-requires c = omega (arith, c.requires, room_8 c.ranges.operation, c.put_number-a.ensures.place, c.put_used-b.ensures.upper_bound, c.put_used-c.ensures.upper_bound, c.put_used-d.ensures.upper_bound, c.put_used-e.ensures.upper_bound, c.put_number-a.auto.out, c.put_used-b.auto.out, c.put_used-c.auto.out, c.put_used-d.auto.out, c.put_used-e.auto.out)
+put_byte-requires c = omega (
+  arith,
+  c.requires,
+  room_8 c.ranges.operation,
+  c.put_number-a.ensures.place,
+  c.put_used-b.ensures.upper_bound,
+  c.put_used-c.ensures.upper_bound,
+  c.put_used-d.ensures.upper_bound,
+  c.put_used-e.ensures.upper_bound,
+  c.put_number-a.auto.out,
+  c.put_used-b.auto.out,
+  c.put_used-c.auto.out,
+  c.put_used-d.auto.out,
+  c.put_used-e.auto.out,
+)
 
 pub shape_of-out : goal.shape_of-out
 shape_of-out c = c.put_byte.auto.out ∙ c.put_used-e.auto.out ∙ c.put_used-d.auto.out ∙ c.put_used-c.auto.out ∙ c.put_used-b.auto.out ∙ c.put_number-a.auto.out
