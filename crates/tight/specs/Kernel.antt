@@ -1,5 +1,6 @@
--- THE KERNEL ITSELF. The demands, said of the contract that the compiled `speltmallet_door` is proved to meet: its clauses are those of
--- crates/kernel/src/lib.rt. A contract is a relation between what is lent and what is given back, and whatever it allows meets the demands.
+-- THE KERNEL ITSELF. The demands, said of the contract that `speltmallet_door` is proved to meet: its clauses are those of
+-- crates/kernel/src/lib.rt, and what C calls has the same, letter by letter, in crates/kernel_c/src/lib.rt. A contract is a relation between
+-- what is lent and what is given back, and whatever it allows meets the demands.
 use Rattle.std.specs.Prelude.{◌≡◌, List, [], ◌∷◌, ◌++◌, ℕ, ◌≤◌, ℤ, length}
 use seplogic.Ra.Ura.{Ura}
 use base.Logic.{SProp, ent, emp}
