@@ -28,7 +28,8 @@ archive=${SPELTMALLET_LIB:-$top/target/staticlib}/libkernel.a
 guide=$(rt doc) || stop "there is no rt on the PATH: the Rattle kit has the compiler"
 kit=$(dirname "$guide")
 own=$kit/on/$(uname -m)
-[ -x "$own/bin/rattle-cases" ] || stop "the kit at $kit has no rattle-cases for this machine, $(uname -m)"
+[ -x "$own/bin/rattle-cases" ] ||
+  stop "the kit at $kit has no rattle-cases for this machine, $(uname -m), and no other command that compiles at -O3 without proof: rattle-kit-5b had it"
 room=$(mktemp -d)
 trap 'rm -rf "$room"' EXIT
 
