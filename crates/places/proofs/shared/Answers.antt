@@ -1,47 +1,24 @@
 -- `places::shared` meets its contract: what is gathered is 0 exactly when nobody so far has the place. Assumes nothing.
-use mathlib.Core.Path.{◌≡◌, refl}
-use Prim.Native.Nat.{◌+◌, ◌-◌}
+use mathlib.Core.Path.{◌≡◌}
+use mathlib.Core.Bool.{false}
+use mathlib.Core.Logic.{◌↔◌}
+use lib.Bits.{bit_and}
+use lib.ListN.{length}
 use native.Mathlib.Omega.{arith}
 use borrow.Author.Count.{below_more}
-use lib.Dec.{eqb}
-use lib.ListN.{get_or}
+use Rattle.std.proofs.Common.{rules, length-append}
+use Rattle.std.proofs.lemmas.Slice.Zip.{zip_turn}
 use Rattle.laws.proofs.Bitwise.{or_none}
-use Rattle.places.specs.Rings.{entry_in}
+use Rattle.places.specs.Rings.{entry_at}
 use Rattle.places.proofs.Below.{both}
 use Rattle.places.proofs.shared.Goals as goal
 
-pub overflow_add-k-end : goal.overflow_add-k-end
-overflow_add-k-end c = omega arith
-
-pub loop-k-init : goal.loop-k-init
-loop-k-init c = (omega arith, omega arith, (λ e m h l. absurd (omega arith), λ h. refl))
-
-pub bounds-lines-k : goal.bounds-lines-k
-bounds-lines-k c = omega (arith, c.requires.0)
-
-pub bounds-places-k : goal.bounds-places-k
-bounds-places-k c = omega (arith, c.requires.1)
-
-pub overflow_step-k : goal.overflow_step-k
-overflow_step-k c = omega arith
-
-pub loop-k-smaller : goal.loop-k-smaller
-loop-k-smaller c = omega arith
-
-pub loop-k-preserved : goal.loop-k-preserved
-loop-k-preserved c =
-    let k = c.loop-k.k in
-    let here = both (entry_in c.args.lines.now c.args.line k) (eqb (get_or c.args.places.now k 0) c.args.place) c.same.ensures.0 c.same-in-loop-k.ensures.0 in (
-      omega arith,
-      omega arith,
-      (
-        λ e. let z = (or_none _ _).0 e in below_more _ _ (c.loop-k.invariant.2.0 z.0) (λ l. here.0 z.1),
-        λ h. (or_none _ _).1 (c.loop-k.invariant.2.1 (λ m q. h m (omega arith)), here.1 (h k (omega arith) (omega arith))),
-      ),
+pub loop-l-preserved : goal.loop-l-preserved
+loop-l-preserved c =
+    let k = length c.loop-l.yielded in
+    let at = zip_turn c.args.lines.now c.args.places.now c.loop-l.yielded c.into_iter-l-iterator.result c.loop-l.l-iterator c.next.new.self c.next.result (search rules) (search rules) c.loop-l.yielded_by (c.in-Some.l, c.in-Some.p) c.in-Some.is c.next.ensures.steps in
+    let here : (bit_and c.from.result c.from-in-loop-l.result ≡ 0) ↔ (entry_at c.args.lines.now c.args.places.now c.args.line c.args.place k ≡ false) = rw (c.from.ensures, c.from-in-loop-l.ensures, at.2 0, at.3 0) (both _ _) in
+    rw length-append (
+      λ e. let z = (or_none _ _).0 e in below_more _ _ (c.loop-l.invariant.0 z.0) (here.0 z.1),
+      λ h. (or_none _ _).1 (c.loop-l.invariant.1 (λ m q. h m (omega arith)), here.1 (h k (omega arith))),
     )
-
-pub returns : goal.returns
-returns c = (
-  λ e k h. c.loop-k.invariant.2.0 e (c.args.from + k) (omega arith) (omega arith),
-  λ h. c.loop-k.invariant.2.1 (λ m q l. let e : c.args.from + (m - c.args.from) ≡ m = omega arith in rw e at (h (m - c.args.from) (omega arith))),
-)
