@@ -1,20 +1,17 @@
 -- How many of the numbers below n pass a test: from anywhere around, one alone, of a list's elements, and in a loop. Assumes nothing.
-use mathlib.Core.Bool.{Bool, true, false, ◌&&◌}
+use mathlib.Core.Bool.{Bool, true, false}
 use mathlib.Core.Path.{◌≡◌, refl, ap, ◌∙◌}
-use mathlib.Core.Logic.{◌↔◌}
 use mathlib.Core.List.{List, [], ◌∷◌}
 use Prim.Native.Nat.{ℕ, zero, suc, ◌+◌, ◌-◌, ◌≤◌, ◌<◌}
 use native.Mathlib.Nat.{add-suc, add-zero}
 use native.Mathlib.Omega.{arith}
 use native.Mathlib.Decide.{ℕ_discrete}
-use lib.Bits.{bit_and}
 use lib.ListN.{length, get_or}
 use Rattle.std.specs.Int.{from_bool}
 use Rattle.rules.specs.Basic.{bit, count}
-use Rattle.laws.proofs.Split.{clash}
 use Rattle.places.specs.Rings.{count_below}
 
-pub bit_most : (b : Bool) → bit b ≤ 1
+bit_most : (b : Bool) → bit b ≤ 1
 bit_most true = omega arith
 bit_most false = omega arith
 
@@ -78,13 +75,6 @@ count_list f d (x ∷ xs) = omega (arith, count_front (length xs) (λ k. f (get_
 
 -- A TRUTH AS A BYTE
 
-pub byte_bit : (b : Bool) → from_bool b ≡ bit b
-byte_bit true = refl
-byte_bit false = refl
-
--- two at once
-pub both : (x y : Bool) → (bit_and (from_bool x) (from_bool y) ≡ 0) ↔ (x && y ≡ false)
-both true true = (λ e. absurd (omega arith), λ e. absurd (clash refl e))
-both true false = (λ e. refl, λ e. refl)
-both false true = (λ e. refl, λ e. refl)
-both false false = (λ e. refl, λ e. refl)
+pub byte_most : (b : Bool) → from_bool b ≤ 1
+byte_most true = omega arith
+byte_most false = omega arith

@@ -42,40 +42,33 @@ fn length_of(lines: &[u8], line: u8) -> u8
     length
 }
 
-// 0 if nobody of these has that place of the line.
-fn shared(lines: &[u8], places: &[u8], line: u8, place: u8) -> u8
+// Has any of these that place of the line? All are asked, also after one that has it: so they are asked in vectors, without a branch.
+fn shared(lines: &[u8], places: &[u8], line: u8, place: u8) -> bool
     requires { length places.now ≡ length lines.now }
-    ensures { (result ≡ 0) ↔ ((k : ℕ) → k < length lines.now → entry_at lines.now places.now line place k ≡ false) }
+    ensures { (result ≡ false) ↔ ((k : ℕ) → k < length lines.now → entry_at lines.now places.now line place k ≡ false) }
 {
-    let mut found: u8 = 0;
+    let mut found = false;
     for (l, p) in lines.iter().zip(places) {
-        found |= u8::from(*l == line) & u8::from(*p == place);
+        found |= *l == line && *p == place;
     }
     found
 }
 
-// 0 if a thread is well placed: in no line its place is 0; in a line of that length it is one of 1 to the length, and not shared.
-// A byte and not a truth: so it is gathered in the same vectors, without a branch.
-fn misplaced(line: u8, place: u8, length: u8, shared: u8) -> u8
-    ensures { (result ≡ 0) ↔ ((line ≡ 0 → place ≡ 0) × ((line ≡ 0 → ⊥) → (1 ≤ place) × (place ≤ length) × (shared ≡ 0))) }
+// In no line a thread's place is 0; in a line of that length it is one of 1 to the length, and not shared.
+fn misplaced(line: u8, place: u8, length: u8, shared: bool) -> bool
+    ensures { (result ≡ false) ↔ ((line ≡ 0 → place ≡ 0) × ((line ≡ 0 → ⊥) → (1 ≤ place) × (place ≤ length) × (shared ≡ false))) }
 {
     if line == 0 {
-        return u8::from(place != 0);
+        return place != 0;
     }
-    if shared != 0 {
-        return 1;
-    }
-    if place == 0 {
-        return 1;
-    }
-    u8::from(place > length)
+    shared || place == 0 || place > length
 }
 
-// 0 if thread `j` of `n` is well placed. Of two threads that share a place one stands in the half of the ring before the other, so that
+// Is thread `j` of `n` misplaced? Of two threads that share a place one stands in the half of the ring before the other, so that
 // each need only ask the half before itself.
-fn misplaced_at(lines: &[u8], places: &[u8], n: usize, j: usize) -> u8
+fn misplaced_at(lines: &[u8], places: &[u8], n: usize, j: usize) -> bool
     requires { (j < n) × Ring n lines.now × Ring n places.now }
-    ensures { (result ≡ 0) ↔ Near n lines.now places.now j }
+    ensures { (result ≡ false) ↔ Near n lines.now places.now j }
 {
     let half = n / 2;
     let line = lines[j + n];
@@ -115,7 +108,7 @@ impl Noted {
         self.places[i] = place;
     }
 
-    // Is every one of `n` threads well placed?
+    // Is every one of `n` threads well placed? All are asked here too.
     pub fn all_placed(&mut self, n: usize) -> bool
         requires few { n ≤ most_threads }
         requires even { half n + half n ≡ n }
@@ -127,10 +120,10 @@ impl Noted {
         lines.copy_within(0..n, n);
         let places = &mut self.places[..];
         places.copy_within(0..n, n);
-        let mut bad: u8 = 0;
+        let mut bad = false;
         for j in 0..n {
             bad |= misplaced_at(&self.lines, &self.places, n, j);
         }
-        bad == 0
+        !bad
     }
 }

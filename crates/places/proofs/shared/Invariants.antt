@@ -8,4 +8,4 @@ use Rattle.places.specs.Rings.{entry_at}
 use Rattle.places.proofs.shared.Given as goal
 
 abbrev pub invariant-loop-l : goal.invariant-loop-l
-invariant-loop-l l = (l.found ≡ 0) ↔ ((k : ℕ) → k < length l.yielded → entry_at l.lines l.places l.line l.place k ≡ false)
+invariant-loop-l l = (l.found ≡ false) ↔ ((k : ℕ) → k < length l.yielded → entry_at l.lines l.places l.line l.place k ≡ false)

@@ -1,4 +1,5 @@
 -- `places::Noted::all_placed` meets its contract: what is gathered is 0 exactly when all threads so far are well placed. Assumes nothing.
+use mathlib.Core.Bool.{false}
 use mathlib.Core.Path.{◌≡◌}
 use mathlib.Core.Logic.{◌↔◌}
 use Prim.Native.Nat.{ℕ, ◌<◌}
@@ -6,4 +7,4 @@ use Rattle.places.specs.Rings.{Near}
 use Rattle.places.proofs.Noted.all_placed.Given as goal
 
 abbrev pub invariant-loop-j : goal.invariant-loop-j
-invariant-loop-j l = (l.bad ≡ 0) ↔ ((m : ℕ) → m < l.j → Near l.n l.self-inside.lines l.self-inside.places m)
+invariant-loop-j l = (l.bad ≡ false) ↔ ((m : ℕ) → m < l.j → Near l.n l.self-inside.lines l.self-inside.places m)
