@@ -6,6 +6,9 @@
 // it says, and `Becomes` says of the rule in its last place that a table that held `s` now holds what the rule makes of `s`;
 // the table is whole again. Where a thread's line may change, `Changes` says the same of a table but for its ready word, which is
 // as it was: crate `ready` mends it. Only the bytes that change are written.
+//
+// The table goes from function to function as the bytes that C lends: a struct that held them would ask each function that writes for two
+// more clauses, that it still holds the same bytes.
 #![tactic(auto)]
 
 ghost use Rattle.std.specs.Prelude.{◌≡◌, ℕ, ◌*◌, set};
@@ -128,7 +131,9 @@ pub fn thread_at(t: &[u8], i: u8) -> Thread
     load_thread(t, k)
 }
 
-// The place of thread `i`. Each field has a function of its own: the promise of each names another rule, and crate `tight` has a theorem of each.
+// Each field has a function of its own, of one line or two: the promise of each names another rule, and crate `tight` has a theorem of each.
+
+// The place of thread `i`.
 pub fn set_place(t: &mut [u8], i: usize, place: u8)
     requires { HasThread t.old i × Whole t.old }
     ensures { Becomes t.old t.new (on_threads (edit i (with_place place))) }
@@ -280,7 +285,7 @@ pub fn set_running(t: &mut [u8], i: usize)
     ensures { Becomes t.old t.new (with_running i) }
 {
     let base = boards::kernel_from(t);
-    // the number of a thread is a byte, so there is no refusal for `try_from` to give
+    // A thread's number fits in a byte, so `try_from` would have no refusal to give.
     t[base + field::RUNNING] = i as u8;
 }
 

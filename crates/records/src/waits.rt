@@ -17,8 +17,7 @@ pub fn counter_of(w: Wait) -> u32
     }
 }
 
-// Does a wait wait for something?
-// This and the four below are functions beside the type: crate tight has a theorem of each.
+// Does a wait wait for something? This and the four below stay functions of their own: crate `tight` has a theorem of each.
 pub fn is_waiting(w: Wait) -> bool
     ensures { result ≡ waiting w }
 {
