@@ -1,7 +1,7 @@
 // Does a table say its state and nothing else? "Bytes given no meaning are zero, every field is in range", record by record.
 #![tactic(auto)]
 
-ghost use Rattle.std.specs.Prelude.{◌≡◌, true, ◌↔◌, ℕ, ◌+◌, ◌*◌, ◌≤◌, ◌<◌, leb, ◌&&◌, length, get_or};
+ghost use Rattle.std.specs.Prelude.{◌≡◌, true, ◌↔◌, ℕ, ◌+◌, ◌*◌, ◌≤◌, ◌<◌, length, get_or};
 ghost use Rattle.rules.specs.Board.{record_length};
 ghost use Rattle.layout.specs.Bytes.{sems_from, kernel_from};
 ghost use Rattle.layout.specs.Boards.{HasThread, HasSem};
@@ -52,27 +52,22 @@ fn outcome_canon(byte: u8) -> bool
     byte <= 1 || byte == 251
 }
 
-fn flags_canon(used: u8, suspended: u8, full: u8) -> bool
-    ensures { result ≡ leb used 1 && leb suspended 1 && leb full 1 }
-{
-    used <= 1 && suspended <= 1 && full <= 1
-}
-
 // Thread `i`'s record.
+#[tactic(auto, unfolding(layout::specs::Canon::thread_canon, layout::specs::Canon::head_canon))]
 pub fn thread_canon(t: &[u8], i: usize) -> bool
     requires { HasThread t.now i × Long t.now }
     ensures { result ≡ thread_canon t.now (i * record_length) }
 {
     let base = i * RECORD;
-    flags_canon(
-        t[base + field::USED],
-        t[base + field::SUSPENDED],
-        t[base + field::FULL],
-    ) && wait_canon(t[base + field::KIND], t[base + field::OBJECT])
+    t[base + field::USED] <= 1
+        && t[base + field::SUSPENDED] <= 1
+        && t[base + field::FULL] <= 1
+        && wait_canon(t[base + field::KIND], t[base + field::OBJECT])
         && outcome_canon(t[base + field::OUTCOME])
 }
 
 // Semaphore `k`'s record.
+#[tactic(auto, unfolding(layout::specs::Canon::sem_canon))]
 pub fn sem_canon(t: &[u8], k: usize) -> bool
     requires { HasSem t.now k × Long t.now }
     ensures { result ≡ sem_canon t.now (sems_from (board t.now) + k * record_length) }
