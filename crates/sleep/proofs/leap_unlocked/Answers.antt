@@ -62,13 +62,13 @@ returns-then-left-le1 c = tells_as _ _ _ _ tick_of (leap_unlocked c.args.q) (rec
 
 pub run_on-requires : goal.run_on-requires
 run_on-requires c = record {
-  has_thread = (omega (arith, c.running-r.ensures _ refl, c.requires.runs), omega (arith, c.least-far.ensures), c.requires.whole);
+  has_thread = (omega (arith, c.running-r.ensures _ refl, c.requires.runs), omega (arith, c.min-far.ensures), c.requires.whole);
   r_value = λ s e. (c.running-r.ensures s e, counts _ c.running-r.ensures c.load_thread-th.ensures c.counter_of-left.ensures s e);
 }
 
 pub returns : goal.returns
-returns c = tells_as _ _ _ _ (turn_of c.least-far.result) (leap_unlocked c.args.q) (record { leapt = λ s h. (refl, refl); table = c.run_on.ensures }) (λ s h.
+returns c = tells_as _ _ _ _ (turn_of c.min-far.result) (leap_unlocked c.args.q) (record { leapt = λ s h. (refl, refl); table = c.run_on.ensures }) (λ s h.
     let left = counts _ c.running-r.ensures c.load_thread-th.ensures c.counter_of-left.ensures s h.says in
-    let far : min c.args.q (pred (counter_of (caller s).wait)) ≡ c.least-far.result = omega (arith, left, c.least-far.ensures) in
+    let far : min c.args.q (pred (counter_of (caller s).wait)) ≡ c.min-far.result = omega (arith, left, c.min-far.ensures) in
     by_turn c.args.q s (omega (arith, rank _ c.running-r.ensures c.load_thread-th.ensures s h.says, c.round-whole.ensures.above (omega (arith, c.if-whole-q.false)))) (omega (arith, left, c.if-left-le1.false))
     ∙ ap (λ m. turn_of m s) far)

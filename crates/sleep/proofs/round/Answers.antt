@@ -26,15 +26,15 @@ returns-then-turns-most c = record {
   above = λ h. omega (arith, h, c.loop-j.invariant.2, turns_front c.args.priority c.loop-j.j (said c.args.t.now).threads);
 }
 
-pub load_thread-th-requires : goal.load_thread-th-requires
-load_thread-th-requires c = (omega (arith, c.threads-threads.ensures), c.requires.0)
+pub load_thread-requires : goal.load_thread-requires
+load_thread-requires c = (omega (arith, c.threads-threads.ensures), c.requires.0)
 
 pub overflow_add-turns : goal.overflow_add-turns
 overflow_add-turns c =
     let s = said c.args.t.now in
     let p = c.args.priority in
     let j = c.loop-j.j in
-    let turned : c.turn_at-turns.result ≡ (if in_line (ready p) (at s.threads j) then (at s.threads j).turn else 0) = rw (c.load_thread-th.ensures _ refl) at c.turn_at-turns.ensures in
+    let turned : c.turn_at-turns.result ≡ (if in_line (ready p) (at s.threads j) then (at s.threads j).turn else 0) = rw (c.load_thread.ensures _ refl) at c.turn_at-turns.ensures in
     record { fits = omega (arith, turned, c.threads-threads.ensures, c.loop-j.invariant.0, c.loop-j.invariant.1, turn_most s c.requires.1 p j) }
 
 pub overflow_step-j : goal.overflow_step-j
@@ -49,7 +49,7 @@ loop-j-preserved c =
     let p = c.args.priority in
     let j = c.loop-j.j in
     let inv = c.loop-j.invariant in
-    let turned : c.turn_at-turns.result ≡ (if in_line (ready p) (at s.threads j) then (at s.threads j).turn else 0) = rw (c.load_thread-th.ensures _ refl) at c.turn_at-turns.ensures in
+    let turned : c.turn_at-turns.result ≡ (if in_line (ready p) (at s.threads j) then (at s.threads j).turn else 0) = rw (c.load_thread.ensures _ refl) at c.turn_at-turns.ensures in
     let more : j < length s.threads = omega (arith, c.loop-j-test.true, c.threads-threads.ensures, (sized c.requires.0 refl).threads) in (
       omega (arith, c.loop-j-test.true),
       omega (arith, turned, inv.1, turn_most s c.requires.1 p j),

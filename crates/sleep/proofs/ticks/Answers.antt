@@ -4,19 +4,20 @@ use native.Mathlib.Omega.{arith}
 use borrow.Author.Tests.{eq-eqb, ne_eqb, lt-ltb, le-ltb}
 use Rattle.rules.specs.Board.{most_ticks}
 use Rattle.rules.specs.Sleep.{ticks, do_ticks}
-use Rattle.rules.specs.declared.Answer.TheVariants.{Done}
+use Rattle.rules.specs.declared.Reply.TheVariants.{Done}
+use Rattle.std.specs.Prelude.{Ok}
 use Rattle.layout.proofs.Held.{◌⨾◌, becomes_as, becomes_same}
 use Rattle.waiting.proofs.Doing.{gives, does, does_nothing}
 use Rattle.sleep.proofs.Leaping.{ticks_add, ticks_none, serves_after, leapt}
+use Rattle.sleep.proofs.ticks.Goals.{then-n-eq0-via-then-n-eq0, then-n-eq0-via-else-n-eq0+then-n-gt-MOST_TICKS}
 use Rattle.sleep.proofs.ticks.Goals as goal
 
 pub returns-then-n-eq0 : goal.returns-then-n-eq0
 unfolding do_ticks
-returns-then-n-eq0 c = does_nothing c.requires.whole (λ s e. rw (eq-eqb c.args.n 0 c.if-n-eq0.true))
-
-pub returns-then-n-gt-MOST_TICKS : goal.returns-then-n-gt-MOST_TICKS
-unfolding do_ticks
-returns-then-n-gt-MOST_TICKS c = does_nothing c.requires.whole (λ s e. rw (ne_eqb c.args.n 0 c.if-n-eq0.false, lt-ltb most_ticks c.args.n c.if-n-gt-MOST_TICKS.true))
+returns-then-n-eq0 c = does_nothing c.requires.whole (λ s e. elim c.then-n-eq0.branch [
+  | then-n-eq0-via-then-n-eq0 w ↦ rw (eq-eqb c.args.n 0 w.if-n-eq0.true)
+  | then-n-eq0-via-else-n-eq0+then-n-gt-MOST_TICKS w ↦ rw (ne_eqb c.args.n 0 w.if-n-eq0.false, lt-ltb most_ticks c.args.n w.if-n-gt-MOST_TICKS.true)
+])
 
 pub loop-left-init : goal.loop-left-init
 loop-left-init c = (omega arith, c.requires, refl, becomes_same c.requires.whole (λ s h. ticks_none c.args.n s))
@@ -48,4 +49,4 @@ pub returns : goal.returns
 unfolding do_ticks
 returns c =
     let n = c.args.n in
-    does c.loop-left.invariant.3 (λ s h. rw (ne_eqb n 0 c.if-n-eq0.false, le-ltb most_ticks n c.if-n-gt-MOST_TICKS.false) (ap (λ k. gives (ticks k s) (Done 0)) (omega (arith, c.loop-left.invariant.0))))
+    does c.loop-left.invariant.3 (λ s h. rw (ne_eqb n 0 c.if-n-eq0.false, le-ltb most_ticks n c.if-n-gt-MOST_TICKS.false) (ap (λ k. gives (ticks k s) (Ok (Done 0))) (omega (arith, c.loop-left.invariant.0))))
