@@ -22,9 +22,6 @@ returns-then-n-eq0 c = does_nothing c.requires.whole (λ s e. elim c.then-n-eq0.
 pub loop-left-init : goal.loop-left-init
 loop-left-init c = (omega arith, c.requires, refl, becomes_same c.requires.whole (λ s h. ticks_none c.args.n s))
 
-pub leap-l-requires : goal.leap-l-requires
-leap-l-requires c = (c.loop-left.invariant.1, c.loop-left-test.true)
-
 pub overflow_sub-left : goal.overflow_sub-left
 overflow_sub-left c = (leapt c.loop-left.invariant.1 c.loop-left-test.true c.leap-l.ensures.leapt c.leap-l.ensures.table).most
 
@@ -41,9 +38,6 @@ loop-left-preserved c =
       omega (arith, c.leap-l.auto, inv.2),
       becomes_as (inv.3 ⨾ l.ticks) (λ s h. ticks_add _ far s ∙ ap (λ k. ticks k s) (omega (arith, inv.0, l.most))),
     )
-
-pub shape_of-t : goal.shape_of-t
-shape_of-t c = c.loop-left.invariant.2
 
 pub returns : goal.returns
 unfolding do_ticks
