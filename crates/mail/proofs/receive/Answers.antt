@@ -1,16 +1,9 @@
 -- `mail::receive` meets its contract: each way out is a branch of the rule. Assumes nothing.
-use mathlib.Core.Path.{refl, ap}
-use native.Mathlib.Omega.{arith}
+use mathlib.Core.Path.{ap}
 use Rattle.rules.specs.Mail.{do_receive}
 use Rattle.rules.specs.declared.Wait.TheVariants.{Receive}
 use Rattle.waiting.proofs.Doing.{does_as, then_does}
 use Rattle.mail.proofs.receive.Goals as goal
-
-pub load_thread-th-requires : goal.load_thread-th-requires
-load_thread-th-requires c = (omega (arith, c.requires.runs, c.running-r.ensures _ refl), c.requires.whole.long)
-
-pub empty_mailbox-requires : goal.empty_mailbox-requires
-empty_mailbox-requires c = (omega (arith, c.requires.runs, c.running-r.ensures _ refl), c.requires.whole)
 
 pub returns-then-th : goal.returns-then-th
 unfolding do_receive
