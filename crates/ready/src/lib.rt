@@ -5,15 +5,15 @@
 // back the bit that goes with it, which `mend` is handed, so that nobody looks at all threads once more.
 #![tactic(auto)]
 
-ghost use Rattle.std.specs.Prelude.{◌≡◌, List, ℕ, ◌+◌, ◌^◌, ◌≤◌, ◌<◌};
-ghost use Rattle.std.specs.Fn.{FnOnceTakesAtMut, FnOnceReturnsAtMut};
+ghost use Rattle.std.specs.Prelude.{◌≡◌, ℕ, ◌+◌, ◌^◌, ◌≤◌, ◌<◌};
 ghost use Rattle.rules.specs.Board.{top_priority};
-ghost use Rattle.rules.specs.State.{State, at, edit};
+ghost use Rattle.rules.specs.State.{State, at};
 ghost use Rattle.rules.specs.Lines.{leave, move, top, settle};
 ghost use Rattle.rules.specs.declared.Thread.{Thread};
 ghost use Rattle.layout.specs.Boards.{HasThread};
-ghost use Rattle.layout.specs.Held.{said, Holds, Whole, Becomes, Shows, Laid, Changes, on_threads};
+ghost use Rattle.layout.specs.Held.{said, Holds, Whole, Becomes, Shows, Laid, on_threads};
 ghost use Rattle.ready.specs.Word.{ready_bit, last_bit, Mends};
+ghost use Rattle.ready.specs.Change.{ChangesThread};
 
 use marks::Line;
 use rules::{TOP_PRIORITY, Thread};
@@ -61,12 +61,10 @@ fn mend(t: &mut [u8], i: usize, left: u32)
 // Thread `i` leaves its line, `change` changes its record, and it joins the tail of the line that it then belongs to. The place that it has
 // there is given back.
 pub fn moved<F: FnOnce(&mut [u8])>(t: &mut [u8], i: usize, change: F) -> u8
-    ghost rule: { Thread → Thread }
     requires table { HasThread t.old i × Whole t.old }
-    requires callable { (y : List ℕ) → HasThread y i → Whole y → FnOnceTakesAtMut F.FnOnce change y }
-    requires changes { (y z : List ℕ) → HasThread y i → Whole y → FnOnceReturnsAtMut F.FnOnce change y tt z → Changes y z (on_threads (edit i rule)) }
+    requires change { (rule : Thread → Thread) × ChangesThread F.FnOnce change i rule }
     ensures place { (s : State) → said t.new ≡ s → result ≡ (at s.threads i).place }
-    ensures table { Becomes t.old t.new (on_threads (move i rule)) }
+    ensures table { (rule : Thread → Thread) → ChangesThread F.FnOnce change i rule → Becomes t.old t.new (on_threads (move i rule)) }
 {
     let left = leave(t, i);
     change(t);
