@@ -1,40 +1,33 @@
 // The lines of threads, in place: who stands where, who is first, and what becomes of the places when one leaves or joins.
 //
 // The promises are those of crate `records`: one that reads gives what the table says, and one that writes asks for a whole
-// table and says by `Becomes` what the table holds then. A line goes by its number, `line_number`, and its members are known by its mark.
+// table and says by `Becomes` what the table holds then. The members of a line are known by its mark.
 #![tactic(auto)]
 
 ghost use Rattle.std.specs.Prelude.{if◌then◌else◌, ◌≡◌, ℕ, ◌*◌, ◌^◌, ◌≤◌, ◌<◌, map};
 ghost use Rattle.rules.specs.State.{State, at, is_ready, edit, with_place};
-ghost use Rattle.rules.specs.Lines.{Line, ready, in_line, line_length, first, move_up, leave, filled, tail_place, join, move};
+ghost use Rattle.rules.specs.Lines.{ready, in_line, line_length, move_up, leave, filled, tail_place, join, move};
 ghost use Rattle.layout.specs.Boards.{HasThread};
 ghost use Rattle.layout.specs.Held.{said, Holds, Whole, Becomes, on_threads};
-ghost use Rattle.marks.specs.Numbers.{line_number};
+ghost use Rattle.marks.specs.Named.{named};
 ghost use Rattle.marks.specs.Marks.{mark_of};
+ghost use Rattle.lines.specs.First.{first_if_any};
 
-use marks::Mark;
+use marks::{Line, Mark};
 use rules::Thread;
 
 // "A thread is ready when in use, not suspended, not waiting."
 pub fn is_ready(th: Thread) -> bool
     ensures { result ≡ is_ready th }
 {
-    let w = th.wait;
-    if !th.used {
-        return false;
-    }
-    if th.suspended {
-        return false;
-    }
-    !records::is_waiting(w)
+    th.used && !th.suspended && !records::is_waiting(th.wait)
 }
 
 // Is the thread ready, at that priority?
 pub fn in_rank(th: Thread, priority: u8) -> bool
     ensures { result ≡ in_line (ready priority) th }
 {
-    let own = th.priority;
-    is_ready(th) & (own == priority)
+    is_ready(th) && th.priority == priority
 }
 
 // HOW MANY STAND IN A LINE
@@ -55,10 +48,10 @@ fn exponent(power: u64) -> u8
     (63 - u64::leading_zeros(power)) as u8
 }
 
-// How many threads stand in the line.
-pub fn line_length(t: &[u8], line: u16) -> u8
+// How many threads stand in the line. The table is lent anew at each look: with `t` itself the compiler keeps where it stands on the stack.
+pub fn line_length(t: &[u8], line: Line) -> u8
     requires { Whole t.now }
-    ensures { (s : State) (l : Line) → said t.now ≡ s → line ≡ line_number l → result ≡ line_length l s.threads }
+    ensures { (s : State) → said t.now ≡ s → result ≡ line_length (named line) s.threads }
 {
     let m = marks::mark_of(line);
     let mut power: u64 = 1;
@@ -71,19 +64,14 @@ pub fn line_length(t: &[u8], line: u16) -> u8
 
 // WHO IS FIRST
 
-// Which thread is the line's first; where it has none, the number of threads.
-pub fn first_of(t: &[u8], line: u16) -> usize
+// Which thread is the line's first, if it has one.
+pub fn first_of(t: &[u8], line: Line) -> Option<usize>
     requires { Whole t.now }
-    ensures { (s : State) (l : Line) → said t.now ≡ s → line ≡ line_number l → result ≡ first l s.threads }
+    ensures { (s : State) → said t.now ≡ s → result ≡ first_if_any (named line) s.threads }
 {
     let m = marks::first_mark(line);
     let threads = boards::threads(&t[..]);
-    for j in 0..threads {
-        if marks::has_mark(&t[..], j, m) {
-            return j;
-        }
-    }
-    threads
+    (0..threads).find(|j| marks::has_mark(&t[..], *j, m))
 }
 
 // A THREAD LEAVES ITS LINE
@@ -93,8 +81,8 @@ fn move_up(t: &mut [u8], j: usize, m: Mark, place: u8, power: u64) -> u64
     requires { HasThread t.old j × Whole t.old × (power < 2 ^ 63) }
     ensures bounds { (power ≤ result) × (result ≤ 2 * power) }
     ensures whole { Whole t.new }
-    ensures count { (s : State) (l : Line) → Holds t.old s → m ≡ mark_of l → result ≡ (if in_line l (at s.threads j) then 2 * power else power) }
-    ensures table { (l : Line) → m ≡ mark_of l → Becomes t.old t.new (on_threads (edit j (move_up l place))) }
+    ensures count { (s : State) (l : _) → Holds t.old s → m ≡ mark_of l → result ≡ (if in_line l (at s.threads j) then 2 * power else power) }
+    ensures table { (l : _) → m ≡ mark_of l → Becomes t.old t.new (on_threads (edit j (move_up l place))) }
 {
     if !marks::has_mark(t, j, m) {
         return power;
@@ -109,10 +97,10 @@ fn move_up(t: &mut [u8], j: usize, m: Mark, place: u8, power: u64) -> u64
 }
 
 // Whoever stands behind that place of the line moves up. How many stand in the line is given back.
-fn close_gap(t: &mut [u8], line: u16, place: u8) -> u8
+fn close_gap(t: &mut [u8], line: Line, place: u8) -> u8
     requires { Whole t.old }
-    ensures count { (s : State) (l : Line) → Holds t.old s → line ≡ line_number l → result ≡ line_length l s.threads }
-    ensures table { (l : Line) → line ≡ line_number l → Becomes t.old t.new (on_threads (map (move_up l place))) }
+    ensures count { (s : State) → Holds t.old s → result ≡ line_length (named line) s.threads }
+    ensures table { Becomes t.old t.new (on_threads (map (move_up (named line) place))) }
 {
     let m = marks::mark_of(line);
     let mut power: u64 = 1;
@@ -133,7 +121,10 @@ pub fn leave(t: &mut [u8], i: usize) -> u8
     let line = marks::line_of(th);
     let place = th.place;
     records::set_place(t, i, 0);
-    close_gap(t, line, place)
+    match line {
+        Some(line) => close_gap(t, line, place),
+        None => 0,
+    }
 }
 
 // A THREAD JOINS A LINE
@@ -165,7 +156,7 @@ pub fn join(t: &mut [u8], i: usize) -> u8
     ensures table { Becomes t.old t.new (on_threads (join i)) }
 {
     let th = records::load_thread(t, i);
-    let place = line_length(t, marks::line_of(th));
+    let place = marks::line_of(th).map_or(0, |line| line_length(t, line));
     stand_at(t, i, place);
     place
 }

@@ -4,10 +4,10 @@ use Rattle.std.specs.Prelude.{if◌then◌else◌}
 use mathlib.Core.Bool.{Bool, true, false, ◌&&◌}
 use mathlib.Core.Path.{◌≡◌, refl, ap, sym, ◌∙◌}
 use mathlib.Core.List.{List}
-use Prim.Native.Nat.{ℕ, ◌+◌, ◌*◌, ◌-◌, ◌/◌, ◌%◌, ◌^◌, ◌≤◌, ◌<◌}
+use Prim.Native.Nat.{ℕ, ◌+◌, ◌*◌, ◌^◌, ◌<◌}
 use native.Mathlib.Nat.{mod-eq_of_lt, add-zero}
 use native.Mathlib.Omega.{arith}
-use borrow.Author.Tests.{ne_eqb, eqb-true, eqb-false, le-leb, lt-leb, leb-true, leb-false}
+use borrow.Author.Tests.{ne_eqb, eqb-true, eqb-false, leb-true, leb-false}
 use lib.Bits.{bit_and, and_block, and_mask, and_zero_r, and_le_l}
 use lib.Dec.{eqb, leb}
 use lib.ListN.{get_or}
@@ -27,10 +27,9 @@ use Rattle.layout.proofs.Records.{thread_byte}
 use Rattle.layout.proofs.Boards.{has_thread}
 use Rattle.layout.proofs.Held.{holds_on, holds_whole}
 use Rattle.words.specs.Long.{long_at}
-use Rattle.marks.specs.Numbers.{line_number}
-use Rattle.marks.specs.Marks.{standing, head_of, nobody, kind_mark, mark_of, first_mark}
+use Rattle.marks.specs.Marks.{standing, head_of, mark_of, first_mark}
 use Rattle.marks.specs.declared.Mark.{Mark}
-use Rattle.marks.proofs.Numbered.{as_number, numbered}
+use Rattle.marks.proofs.Numbered.{as_number}
 
 -- what is said of a thread stands in bytes
 pub record Small (t : Thread) : Type 0 where
@@ -173,13 +172,13 @@ module _ (t : Thread) (small : Small t) where
     | isnt e ↦ rw e (nobody_has (standing t) ∙ sym (none_beyond i t.priority (leb-false i 255 e) small.priority t.used t.suspended t.wait small.object).2)
   ]
 
-  pub line_tells : (l : Line) → eqb (bit_and (head_of t) (mark_of l).mask) (mark_of l).bytes ≡ in_line l t
+  line_tells : (l : Line) → eqb (bit_and (head_of t) (mark_of l).mask) (mark_of l).bytes ≡ in_line l t
   line_tells l =
       ap (λ x. eqb x (mark_of l).bytes) (masked (t.place + 256 * (bit t.full + 256 * outcome_byte t.outcome)) (standing t) (mark_of l).mask (standing_low t small) (marks_low l).0)
       ∙ stands_tells l
 
   -- the place stands in bits of its own
-  pub first_tells : (l : Line) → eqb (bit_and (head_of t) (first_mark l).mask) (first_mark l).bytes ≡ is_first l t
+  first_tells : (l : Line) → eqb (bit_and (head_of t) (first_mark l).mask) (first_mark l).bytes ≡ is_first l t
   first_tells l =
       let behind = t.place + 256 * (bit t.full + 256 * outcome_byte t.outcome) in
       let m = (mark_of l).mask in
@@ -199,30 +198,6 @@ module _ (t : Thread) (small : Small t) where
         | isnt e ↦ rw e (ne_eqb (q * 1099511627776 + x) (b + 1099511627776) (λ d. eqb-false x b e (omega arith)))
       ]
 
--- THE MARK OF A NUMBER
-
--- an object that no byte can name
-pub beyond : (l : Line) (n : ℕ) → n ≡ line_number l → 255 < (n - 1) / 3 → nobody ≡ mark_of l
-beyond nowhere n e h = refl
-beyond (ready p) n e h = rw (lt-leb p 255 (omega arith))
-beyond (waiters k) n e h = rw (lt-leb k 255 (omega arith))
-beyond (senders i) n e h = rw (lt-leb i 255 (omega arith))
-
--- any other line is known by the rest and the quotient of its number
-pub of_kind : (l : Line) (n : ℕ) → n ≡ line_number l → (n ≡ 0 → ⊥) → (n - 1) / 3 ≤ 255 → kind_mark ((n - 1) % 3) ((n - 1) / 3) ≡ mark_of l
-of_kind nowhere n e z h = absurd (z e)
-of_kind (ready p) n e z h = let k : (n - 1) % 3 ≡ 0 = omega arith in let o : (n - 1) / 3 ≡ p = omega arith in rw (k, o, le-leb p 255 (omega arith))
-of_kind (waiters q) n e z h = let k : (n - 1) % 3 ≡ 1 = omega arith in let o : (n - 1) / 3 ≡ q = omega arith in rw (k, o, le-leb q 255 (omega arith))
-of_kind (senders i) n e z h = let k : (n - 1) % 3 ≡ 2 = omega arith in let o : (n - 1) / 3 ≡ i = omega arith in rw (k, o, le-leb i 255 (omega arith))
-
--- every number is that of a line, whose mark is low
-pub known_low : (n : ℕ) (m : Mark) → ((l : Line) → n ≡ line_number l → m ≡ mark_of l) → (m.mask < 2 ^ 40) × (m.bytes < 2 ^ 40)
-known_low n m known =
-    let l = numbered n in
-    let e = known l.0 l.1 in
-    let low = marks_low l.0 in
-    (rw e low.0, rw e low.1)
-
 -- THE RECORD
 
 -- a record's first eight bytes are what the thread that it says has there
@@ -231,7 +206,7 @@ module _ {t : List ℕ} {s : State} (holds : Holds t s) (byte : (k : ℕ) → ge
   unfolding encode
   field k h = ap (λ l. get_or l (i * record_length + k) 0) holds.bytes ∙ thread_byte (holds_on holds) (ready_word s.threads) i k ((has_thread (holds_whole holds).long i).0 inside) h
 
-  pub small : Small (at s.threads i)
+  small : Small (at s.threads i)
   unfolding thread_row
   small = record {
     priority = omega (arith, byte (i * record_length + 1), field 1 (omega arith));
@@ -239,7 +214,7 @@ module _ {t : List ℕ} {s : State} (holds : Holds t s) (byte : (k : ℕ) → ge
     place = omega (arith, byte (i * record_length + 5), field 5 (omega arith));
   }
 
-  pub head_said : long_at t (i * record_length) ≡ head_of (at s.threads i)
+  head_said : long_at t (i * record_length) ≡ head_of (at s.threads i)
   unfolding thread_row
   head_said =
       let base = i * record_length in
@@ -247,3 +222,10 @@ module _ {t : List ℕ} {s : State} (holds : Holds t s) (byte : (k : ℕ) → ge
       let later : (k : ℕ) → 4 + k < record_length → get_or t (base + 4 + k) 0 ≡ get_or (thread_row (at s.threads i)) (4 + k) 0 =
       λ k h. let e : base + 4 + k ≡ base + (4 + k) = omega arith in rw e (field (4 + k) h) in
       omega (arith, zero-th, field 1 (omega arith), field 2 (omega arith), field 3 (omega arith), field 4 (omega arith), later 1 (omega arith), later 2 (omega arith), later 3 (omega arith))
+
+  -- whatever mark a line has, it tells of the record
+  pub line_known : {m : Mark} (l : Line) → m ≡ mark_of l → eqb (bit_and (long_at t (i * record_length)) m.mask) m.bytes ≡ in_line l (at s.threads i)
+  line_known l e = rw (e, head_said) (line_tells (at s.threads i) small l)
+
+  pub first_known : {m : Mark} (l : Line) → m ≡ first_mark l → eqb (bit_and (long_at t (i * record_length)) m.mask) m.bytes ≡ is_first l (at s.threads i)
+  first_known l e = rw (e, head_said) (first_tells (at s.threads i) small l)

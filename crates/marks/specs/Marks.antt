@@ -1,6 +1,6 @@
 -- The mark of a line: which bits of a record's first eight bytes, read as a number, tell that its thread stands there, and what they are.
 -- The bytes are use, priority, suspended, wait kind, wait object, place, mailbox full and outcome, the lowest first.
-use Rattle.std.specs.Prelude.{if◌then◌else◌, ℕ, ◌+◌, ◌*◌, eqb, leb}
+use Rattle.std.specs.Prelude.{if◌then◌else◌, ℕ, ◌+◌, ◌*◌, leb}
 use Rattle.rules.specs.Basic.{bit}
 use Rattle.rules.specs.Table.{kind_of, object_of, outcome_byte}
 use Rattle.rules.specs.Lines.{Line, nowhere, ready, waiters, senders}
@@ -18,22 +18,16 @@ head_of t = (t.place + 256 * (bit t.full + 256 * outcome_byte t.outcome)) * 1099
 abbrev pub nobody : Mark
 nobody = record { mask = 0; bytes = 1 }
 
--- all five bytes of a ready thread tell; of one that waits its use, and its wait's kind and object
-abbrev pub kind_mark : ℕ → ℕ → Mark
-kind_mark kind object =
-    if eqb kind 0 then record { mask = 1099511627775; bytes = 1 + 256 * object } else
-    if eqb kind 1 then record { mask = 1099494850815; bytes = 1 + 4 * 16777216 + 4294967296 * object } else
-    record { mask = 1099494850815; bytes = 1 + 3 * 16777216 + 4294967296 * object }
-
 -- an object that no byte can name has no line
-abbrev pub object_mark : ℕ → ℕ → Mark
-object_mark kind object = if leb object 255 then kind_mark kind object else nobody
+abbrev pub nameable : ℕ → Mark → Mark
+nameable object mark = if leb object 255 then mark else nobody
 
+-- all five bytes of a ready thread tell; of one that waits its use, and its wait's kind and object
 abbrev pub mark_of : Line → Mark
 mark_of nowhere = nobody
-mark_of (ready p) = object_mark 0 p
-mark_of (waiters k) = object_mark 1 k
-mark_of (senders i) = object_mark 2 i
+mark_of (ready p) = nameable p (record { mask = 1099511627775; bytes = 1 + 256 * p })
+mark_of (waiters k) = nameable k (record { mask = 1099494850815; bytes = 1 + 4 * 16777216 + 4294967296 * k })
+mark_of (senders i) = nameable i (record { mask = 1099494850815; bytes = 1 + 3 * 16777216 + 4294967296 * i })
 
 -- the place is 1 besides
 abbrev pub first_mark : Line → Mark

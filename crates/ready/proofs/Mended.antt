@@ -5,8 +5,7 @@ use mathlib.Core.Bool.{Bool, true, false, ◌&&◌, ◌||◌}
 use mathlib.Core.Path.{◌≡◌, refl, ap, sym, subst, ◌∙◌}
 use mathlib.Core.Logic.{◌≢◌}
 use mathlib.Core.List.{List}
-use Prim.Native.Nat.{ℕ, suc, ◌+◌, ◌-◌, ◌*◌, ◌%◌, ◌^◌, ◌≤◌, ◌<◌}
-use native.Mathlib.Nat.{one-mul, mod-eq_of_lt, pow-suc, pow-le-pow_right, one-le-pow}
+use Prim.Native.Nat.{ℕ, suc, ◌+◌, ◌-◌, ◌^◌, ◌≤◌, ◌<◌}
 use native.Mathlib.Omega.{arith}
 use native.Mathlib.Decide.{ℕ_discrete}
 use borrow.Author.Tests.{eq-eqb, ne_eqb, lt-ltb, le-ltb, ltb-true, ltb-false, le-leb, leb-true}
@@ -18,10 +17,11 @@ use lib.Seq.{get_or-set_same, get_or-set_other, set-get_or}
 use Rattle.rules.specs.Basic.{bit}
 use Rattle.rules.specs.Board.{top_priority}
 use Rattle.rules.specs.State.{State, free, at, is_ready, edit}
-use Rattle.rules.specs.Lines.{ready, line, in_line, line_length, leave, tail_place, has_member, bits_below, ready_word}
+use Rattle.rules.specs.Lines.{ready, line, in_line, line_length, leave, tail_place, join, has_member, bits_below, ready_word}
 use Rattle.rules.specs.declared.Thread.{Thread}
 use Rattle.laws.proofs.Split.{is, isnt, test, clash, and_true, and_both}
 use Rattle.laws.proofs.Lines.{same_eq, in_ready}
+use Rattle.laws.proofs.Moves.{join_place}
 use Rattle.laws.proofs.Members.{edit_same, count_change}
 use Rattle.laws.proofs.Turns.{count_turn}
 use Rattle.laws.proofs.Word.{bits_ext, bits_set, bits_or}
@@ -41,12 +41,6 @@ top_bit word h l =
     let e : top_priority - count_leading_zeros 32 word ≡ x.0 = omega (arith, x.1) in
     let f : top_priority - count_leading_zeros 32 word + 1 ≡ suc x.0 = omega (arith, x.1) in
     (omega (arith, x.1), subst (λ k. 2 ^ k ≤ word) (sym e) x.2, subst (λ k. word < 2 ^ k) (sym f) x.3)
-
--- a bit that is shifted to its place
-pub shifted : (p : ℕ) → p ≤ top_priority → (1 * 2 ^ p) % 2 ^ 32 ≡ 2 ^ p
-shifted p h =
-    let more : 2 ^ suc p ≤ 2 ^ 32 = pow-le-pow_right {n = 2} (omega arith) {i = suc p} {j = 32} (omega arith) in
-    ap (λ n. n % 2 ^ 32) (one-mul (2 ^ p)) ∙ mod-eq_of_lt (omega (arith, more, pow-suc 2 p, one-le-pow p 2 (omega arith)))
 
 -- ONE MORE
 
@@ -204,3 +198,11 @@ module _ {t t' : List ℕ} (w : Whole t) (i : ℕ) (inside : HasThread t i) (g :
 
   pub mended : {t'' : List ℕ} → ((s : State) (v : ℕ) → Shows t' s v → Holds t'' s) → Becomes t t'' (on_threads (edit i g))
   mended f = becomes w (λ s h. f _ _ (changed.shows s (ready_word s.threads) (holds_shows h)))
+
+-- the place that a thread takes where it joins is the place that it has then
+pub joined : {t t' : List ℕ} {place : ℕ} (i : ℕ) → HasThread t i → Whole t → ((s : State) → said t ≡ s → place ≡ tail_place i s.threads)
+    → Becomes t t' (on_threads (join i)) → (s : State) → said t' ≡ s → place ≡ (at s.threads i).place
+joined {t} i h w taken p s e =
+    taken _ refl
+    ∙ sym (join_place i (said t).threads (omega (arith, (sized w.long refl).threads)))
+    ∙ ap (λ z. (at z.threads i).place) (sym (p.holds _ (whole_holds w)).says ∙ e)

@@ -11,7 +11,8 @@ use Rattle.rules.specs.Lines.{in_line, move_up}
 use Rattle.rules.specs.State.{free, with_threads}
 use Rattle.laws.proofs.Turns.{map_to, map_to_none, map_to_next, map_to_turn, map_to_all}
 use Rattle.layout.proofs.Held.{◌⨾◌, becomes_as, becomes_same, holds_sized}
-use Rattle.lines.proofs.Powers.{counted_turn, power_fits}
+use Rattle.marks.specs.Named.{named}
+use Rattle.lines.proofs.Powers.{counted_turn}
 use Rattle.lines.proofs.close_gap.Goals as goal
 
 pub loop-j-init : goal.loop-j-init
@@ -21,21 +22,13 @@ loop-j-init c = (
   omega arith,
   c.requires,
   refl,
-  λ s l h e. refl,
-  λ l e. becomes_same c.requires (λ s h. ap (λ ts. with_threads ts s) (map_to_none (move_up l c.args.place) s.threads)),
+  λ s h. refl,
+  becomes_same c.requires (λ s h. ap (λ ts. with_threads ts s) (map_to_none (move_up (named c.args.line) c.args.place) s.threads)),
 )
-
-pub move_up-power-requires : goal.move_up-power-requires
-move_up-power-requires c = (omega (arith, c.threads-threads.ensures, c.loop-j.invariant.4), c.loop-j.invariant.3, power_fits c.loop-j.power c.loop-j.j c.loop-j.invariant.2 (omega (arith, c.threads-threads.ensures)))
-
-pub overflow_step-j : goal.overflow_step-j
-overflow_step-j c = omega arith
-
-pub loop-j-smaller : goal.loop-j-smaller
-loop-j-smaller c = omega arith
 
 pub loop-j-preserved : goal.loop-j-preserved
 loop-j-preserved c =
+    let l = named c.args.line in
     let q = c.args.place in
     let j = c.loop-j.j in
     let turn = c.move_up-power.ensures in
@@ -46,24 +39,19 @@ loop-j-preserved c =
       rw add-one (omega (arith, turn.bounds.1, before.2, pow-suc 2 j)),
       turn.whole,
       omega (arith, c.move_up-power.auto, before.4),
-      λ s l h e. turn.count (with_threads (map_to (move_up l q) j s.threads) s) l ((before.6 l e).holds s h) (mark l e)
-          ∙ counted_turn (in_line l) s.threads j (omega (arith, c.threads-threads.ensures, (holds_sized h).threads)) (before.5 s l h e) (ap (in_line l) (map_to_next (move_up l q) j s.threads free)),
-      λ l e. becomes_as (before.6 l e ⨾ turn.table l (mark l e))
+      λ s h. turn.count (with_threads (map_to (move_up l q) j s.threads) s) l (before.6.holds s h) mark
+          ∙ counted_turn (in_line l) s.threads j (omega (arith, c.threads-threads.ensures, (holds_sized h).threads)) (before.5 s h) (ap (in_line l) (map_to_next (move_up l q) j s.threads free)),
+      becomes_as (before.6 ⨾ turn.table l mark)
           (λ s h. ap (λ ts. with_threads ts s) (map_to_turn (move_up l q) j s.threads free (omega (arith, c.threads-threads.ensures, (holds_sized h).threads)))),
     )
 
-pub exponent-requires : goal.exponent-requires
-exponent-requires c = c.loop-j.invariant.1
-
-pub shape_of-t : goal.shape_of-t
-shape_of-t c = c.loop-j.invariant.4
-
 pub returns : goal.returns
 returns c =
+    let l = named c.args.line in
     let q = c.args.place in
     let j = c.loop-j.j in
     let after = c.loop-j.invariant in record {
-      count = λ s l h e. c.exponent.ensures (count (in_line l) (take j s.threads)) (after.5 s l h e)
+      count = λ s h. c.exponent.ensures (count (in_line l) (take j s.threads)) (after.5 s h)
           ∙ ap (count (in_line l)) (take_all j s.threads (omega (arith, c.threads-threads.ensures, (holds_sized h).threads)));
-      table = λ l e. becomes_as (after.6 l e) (λ s h. ap (λ ts. with_threads ts s) (map_to_all (move_up l q) j s.threads (omega (arith, c.threads-threads.ensures, (holds_sized h).threads))));
+      table = becomes_as after.6 (λ s h. ap (λ ts. with_threads ts s) (map_to_all (move_up l q) j s.threads (omega (arith, c.threads-threads.ensures, (holds_sized h).threads))));
     }

@@ -3,8 +3,5 @@ use borrow.Author.Rules.{rules}
 use Rattle.lines.proofs.Powers.{exponent_is}
 use Rattle.lines.proofs.exponent.Goals as goal
 
-pub overflow_sub-result : goal.overflow_sub-result
-overflow_sub-result c = (exponent_is c.args.power c.requires (search rules)).0
-
 pub returns : goal.returns
 returns c = (exponent_is c.args.power c.requires (search rules)).1

@@ -4,11 +4,5 @@ use borrow.Author.Rules.{rules}
 use Rattle.ready.proofs.Mended.{top_bit}
 use Rattle.ready.proofs.highest.Goals as goal
 
-pub overflow_cast-result : goal.overflow_cast-result
-overflow_cast-result c = record { fits = omega (arith, (top_bit c.args.word c.requires (search rules)).0) }
-
-pub overflow_sub-result : goal.overflow_sub-result
-overflow_sub-result c = (top_bit c.args.word c.requires (search rules)).0
-
 pub returns : goal.returns
 returns c = let x = top_bit c.args.word c.requires (search rules) in (omega arith, x.1, x.2)

@@ -6,19 +6,14 @@ use Rattle.ready.specs.Word.{ready_bit}
 use Rattle.ready.proofs.Mended.{stood_there}
 use Rattle.ready.proofs.leave.Goals as goal
 
-pub returns-then-stood-eq1 : goal.returns-then-stood-eq1
-returns-then-stood-eq1 c =
+pub returns-then-stood-eq1-clause-left : goal.returns-then-stood-eq1-clause-left
+returns-then-stood-eq1-clause-left c = λ s e.
     let i = c.args.i in
-    let left = c.leave-stood.ensures in record {
-      left = λ s e. rw (eq-eqb (tail_place i s.threads) 1 (stood_there i c.requires.0 c.requires.1 left.table left.count s e ∙ c.if-stood-eq1.true))
-          (c.ready_bit.ensures ∙ ap ready_bit (c.load_thread.ensures s e));
-      table = left.table;
-    }
+    let left = c.leave-stood.ensures in
+    rw (eq-eqb (tail_place i s.threads) 1 (stood_there i c.requires.0 c.requires.1 left.table left.count s e ∙ c.if-stood-eq1.true)) (c.ready_bit.ensures ∙ ap ready_bit (c.load_thread.ensures s e))
 
-pub returns-else-stood-eq1 : goal.returns-else-stood-eq1
-returns-else-stood-eq1 c =
+pub returns-else-stood-eq1-clause-left : goal.returns-else-stood-eq1-clause-left
+returns-else-stood-eq1-clause-left c = λ s e.
     let i = c.args.i in
-    let left = c.leave-stood.ensures in record {
-      left = λ s e. rw (ne_eqb (tail_place i s.threads) 1 (λ one. c.if-stood-eq1.false (sym (stood_there i c.requires.0 c.requires.1 left.table left.count s e) ∙ one)));
-      table = left.table;
-    }
+    let left = c.leave-stood.ensures in
+    rw (ne_eqb (tail_place i s.threads) 1 (λ one. c.if-stood-eq1.false (sym (stood_there i c.requires.0 c.requires.1 left.table left.count s e) ∙ one)))

@@ -1,16 +1,12 @@
 -- `ready::mend` meets its contract: what is written is what makes the word right. Assumes nothing.
 use mathlib.Core.Path.{refl, ap, ◌∙◌}
 use Prim.Native.Nat.{◌-◌}
-use native.Mathlib.Omega.{arith}
 use lib.Bits.{bit_or}
 use Rattle.rules.specs.Lines.{ready_word}
 use Rattle.layout.specs.Held.{said}
 use Rattle.layout.proofs.Held.{shows_holds}
 use Rattle.ready.specs.Word.{ready_bit}
 use Rattle.ready.proofs.mend.Goals as goal
-
-pub overflow_sub-others : goal.overflow_sub-others
-overflow_sub-others c = omega (arith, c.word.ensures, c.requires.2.enough)
 
 pub returns : goal.returns
 returns c = λ s w h.

@@ -1,0 +1,21 @@
+-- Who is first of a line, as a search through the threads in their order finds it. Assumes nothing.
+use Rattle.std.specs.Prelude.{Option, Some, None, MatchOption}
+use mathlib.Core.Bool.{true, false}
+use mathlib.Core.Path.{◌≡◌}
+use mathlib.Core.List.{List}
+use Prim.Native.Nat.{ℕ, ◌≤◌, ◌<◌}
+use native.Mathlib.Omega.{arith}
+use borrow.Author.Tests.{lt-ltb, le-ltb}
+use lib.ListN.{length}
+use Rattle.rules.specs.Lines.{Line, is_first}
+use Rattle.rules.specs.State.{free, at}
+use Rattle.rules.specs.declared.Thread.{Thread}
+use Rattle.laws.proofs.Turns.{find_at, find_none}
+use Rattle.lines.specs.First.{first_if_any}
+
+pub first_found : (l : Line) (ts : List Thread) (n : ℕ) (r : Option ℕ) → length ts ≡ n
+    → MatchOption r ((k : ℕ) → 0 ≤ k → k < n → is_first l (at ts k) ≡ false)
+    (λ i. (0 ≤ i) × (i < n) × (is_first l (at ts i) ≡ true) × ((k : ℕ) → 0 ≤ k → k < i → is_first l (at ts k) ≡ false))
+    → r ≡ first_if_any l ts
+first_found l ts n None e h = rw (find_none (is_first l) free ts (λ k o. h k (omega arith) (omega arith)), le-ltb (length ts) (length ts) (omega arith))
+first_found l ts n (Some i) e h = rw (find_at (is_first l) free ts i (omega arith) (λ k o. h.3 k (omega arith) o) h.2, lt-ltb i (length ts) (omega arith))
