@@ -6,6 +6,7 @@ ghost use Rattle.rules.specs.Threads.{created, deleted, stopped};
 ghost use Rattle.layout.specs.Boards.{HasThread};
 ghost use Rattle.layout.specs.Held.{said, Whole, Becomes, on_threads};
 
+use marks::Line;
 use rules::{Outcome, Thread, Wait};
 
 // Thread `i` is created, ready, with an empty mailbox.
@@ -25,9 +26,7 @@ pub fn create_thread(t: &mut [u8], i: usize, priority: u8, turn: u32)
         value: 0,
         parcel: 0,
     };
-    let left = ready::leave(t, i);
-    ready::store_thread(t, i, new, left);
-    lines::join(t, i);
+    ready::moved(t, i, |t| records::store_thread(t, i, new));
 }
 
 // Thread `i` is deleted: its record is free, and the waits of those who send to it end.
@@ -36,11 +35,9 @@ pub fn delete_thread(t: &mut [u8], i: u8)
     ensures { Becomes t.old t.new (on_threads (deleted i)) }
 {
     let k = i as usize;
-    let line = marks::senders_line(i);
+    let line = Line::Senders { thread: i };
     let n = lines::line_length(t, line);
-    let left = ready::leave(t, k);
-    ready::free_thread(t, k, left);
-    lines::join(t, k);
+    ready::moved(t, k, |t| records::free_thread(t, k));
     waiting::serve(t, n, line, Outcome::Failed);
 }
 
@@ -57,9 +54,10 @@ pub fn stop(t: &mut [u8], i: usize)
     requires { HasThread t.old i × Whole t.old }
     ensures { Becomes t.old t.new (on_threads (move i stopped)) }
 {
-    let left = ready::leave(t, i);
-    ready::set_stopped(t, i, left);
-    lines::join(t, i);
+    ready::moved(t, i, |t| {
+        records::set_suspended(t, i, true);
+        records::set_wait(t, i, Wait::Nothing { counter: 0 });
+    });
 }
 
 // Thread `i`, which waits for nothing, is resumed.
@@ -67,9 +65,7 @@ pub fn restart(t: &mut [u8], i: usize)
     requires { HasThread t.old i × Whole t.old }
     ensures { Becomes t.old t.new (on_threads (move i (with_suspended false))) }
 {
-    let left = ready::leave(t, i);
-    ready::set_suspended(t, i, false, left);
-    lines::join(t, i);
+    ready::moved(t, i, |t| records::set_suspended(t, i, false));
 }
 
 // Thread `i` is given a priority, and goes to the new line's tail.
@@ -77,9 +73,7 @@ pub fn move_priority(t: &mut [u8], i: usize, priority: u8)
     requires { HasThread t.old i × Whole t.old }
     ensures { Becomes t.old t.new (on_threads (move i (with_priority priority))) }
 {
-    let left = ready::leave(t, i);
-    ready::set_priority(t, i, priority, left);
-    lines::join(t, i);
+    ready::moved(t, i, |t| records::set_priority(t, i, priority));
 }
 
 // Thread `i` is given a priority that leaves it in its line.

@@ -5,17 +5,18 @@
 #![tactic(auto)]
 
 ghost use Rattle.std.specs.Prelude.{if◌then◌else◌, true, ◌≡◌, ℕ, Ok, Err};
-ghost use Rattle.rules.specs.State.{State, at, waiting, with_wait, with_outcome};
-ghost use Rattle.rules.specs.Lines.{Line, move};
+ghost use Rattle.rules.specs.State.{State, at, waiting, edit, with_wait, with_outcome};
+ghost use Rattle.rules.specs.Lines.{move};
 ghost use Rattle.rules.specs.Waiting.{accept, end_wait, serve, block, may_not_wait, wait_counter, must_wait};
 ghost use Rattle.rules.specs.Threads.{no_thread, break_off};
 ghost use Rattle.rules.specs.declared.Wait.{Wait};
 ghost use Rattle.rules.specs.declared.Refusal.TheVariants.{BadThread, BadOperation};
 ghost use Rattle.layout.specs.Boards.{HasThread};
-ghost use Rattle.layout.specs.Held.{Long, said, Whole, Becomes, on_threads};
-ghost use Rattle.marks.specs.Numbers.{line_number};
+ghost use Rattle.layout.specs.Held.{Long, said, Whole, Becomes, Changes, on_threads};
+ghost use Rattle.marks.specs.Named.{named};
 ghost use Rattle.waiting.specs.Does.{Serves, Does};
 
+use marks::Line;
 use rules::{Answer, MOST_TICKS, Outcome, Refusal, Reply, Thread, Wait};
 
 // THE END OF A STEP
@@ -38,10 +39,13 @@ fn change_wait(t: &mut [u8], i: usize, w: Wait, outcome: Outcome, parcel: u32) -
     ensures place { (s : State) → said t.new ≡ s → result ≡ (at s.threads i).place }
     ensures table { Becomes t.old t.new (on_threads (move i (λ x. with_outcome outcome parcel (with_wait w x)))) }
 {
-    let left = ready::leave(t, i);
-    ready::set_wait(t, i, w, left);
-    records::set_outcome(t, i, outcome, parcel);
-    lines::join(t, i)
+    ready::moved(t, i, |t|
+        requires { HasThread t.old i × Whole t.old }
+        ensures { Changes t.old t.new (on_threads (edit i (λ x. with_outcome outcome parcel (with_wait w x)))) }
+    {
+        records::set_outcome(t, i, outcome, parcel);
+        records::set_wait(t, i, w);
+    })
 }
 
 // The wait of thread `i` ends: it leaves its line, and enters its ready line if it is not suspended.
@@ -54,20 +58,19 @@ pub fn end_wait(t: &mut [u8], i: usize, outcome: Outcome, parcel: u32)
 }
 
 // The first of a line is served: its wait ends. Where the line has no first, nothing is done.
-fn serve_first(t: &mut [u8], line: u16, outcome: Outcome)
+fn serve_first(t: &mut [u8], line: Line, outcome: Outcome)
     requires { Whole t.old }
-    ensures { Whole t.new × ((l : Line) → line ≡ line_number l → Becomes t.old t.new (on_threads (serve 1 l outcome))) }
+    ensures { Becomes t.old t.new (on_threads (serve 1 (named line) outcome)) }
 {
-    let i = lines::first_of(t, line);
-    if i < boards::threads(t) {
+    if let Some(i) = lines::first_of(t, line) {
         end_wait(t, i, outcome, 0);
     }
 }
 
 // The first `n` threads of a line are served, in line order.
-pub fn serve(t: &mut [u8], n: u8, line: u16, outcome: Outcome)
+pub fn serve(t: &mut [u8], n: u8, line: Line, outcome: Outcome)
     requires { Whole t.old }
-    ensures { (l : Line) → line ≡ line_number l → Becomes t.old t.new (on_threads (serve n l outcome)) }
+    ensures { Becomes t.old t.new (on_threads (serve n (named line) outcome)) }
 {
     for k in 0..n {
         serve_first(t, line, outcome);
