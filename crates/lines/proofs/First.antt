@@ -5,11 +5,13 @@ use mathlib.Core.Path.{◌≡◌}
 use mathlib.Core.List.{List}
 use Prim.Native.Nat.{ℕ, ◌≤◌, ◌<◌}
 use native.Mathlib.Omega.{arith}
-use borrow.Author.Tests.{lt-ltb, le-ltb}
+use borrow.Author.Tests.{lt-ltb, le-ltb, ltb-true, ltb-false}
+use lib.Dec.{ltb}
 use lib.ListN.{length}
-use Rattle.rules.specs.Lines.{Line, is_first}
+use Rattle.rules.specs.Lines.{Line, is_first, first}
 use Rattle.rules.specs.State.{free, at}
 use Rattle.rules.specs.declared.Thread.{Thread}
+use Rattle.laws.proofs.Split.{is, isnt, test}
 use Rattle.laws.proofs.Turns.{find_at, find_none}
 use Rattle.lines.specs.First.{first_if_any}
 
@@ -19,3 +21,17 @@ pub first_found : (l : Line) (ts : List Thread) (n : ℕ) (r : Option ℕ) → l
     → r ≡ first_if_any l ts
 first_found l ts n None e h = rw (find_none (is_first l) free ts (λ k o. h k (omega arith) (omega arith)), le-ltb (length ts) (length ts) (omega arith))
 first_found l ts n (Some i) e h = rw (find_at (is_first l) free ts i (omega arith) (λ k o. h.3 k (omega arith) o) h.2, lt-ltb i (length ts) (omega arith))
+
+-- what an answer says of the rule's number
+pub first_some : (l : Line) (ts : List Thread) {i : ℕ} → Some i ≡ first_if_any l ts → (i ≡ first l ts) × (i < length ts)
+first_some l ts {i} e = elim (test (ltb (first l ts) (length ts))) [
+  | is h ↦ let same : ◌≡◌ {A = Option ℕ} (Some i) (Some (first l ts)) = rw h at e in
+    let own : i ≡ first l ts = cc in (own, omega (arith, own, ltb-true (first l ts) (length ts) h))
+  | isnt h ↦ let none : ◌≡◌ {A = Option ℕ} (Some i) None = rw h at e in absurd cc
+]
+
+pub first_none : (l : Line) (ts : List Thread) → None ≡ first_if_any l ts → length ts ≤ first l ts
+first_none l ts e = elim (test (ltb (first l ts) (length ts))) [
+  | is h ↦ let some : ◌≡◌ {A = Option ℕ} None (Some (first l ts)) = rw h at e in absurd cc
+  | isnt h ↦ ltb-false (first l ts) (length ts) h
+]
