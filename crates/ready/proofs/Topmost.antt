@@ -22,9 +22,9 @@ use Rattle.lines.proofs.First.{first_some, first_none}
 
 module _ (ts : List Thread) where
   -- line q has a first, or the next is looked at
-  pub top_found : {p : ℕ} (q : ℕ) {i : ℕ} → p ≡ suc q → Some i ≡ first_if_any (ready q) ts → (i < length ts) × (top_below p ts ≡ i)
+  pub top_found : {p : ℕ} (q : ℕ) {i : ℕ} → p ≡ suc q → Some i ≡ first_if_any (ready q) ts → top_below p ts ≡ i
   unfolding top_below
-  top_found q d e = let own = first_some (ready q) ts e in (own.1, rw (d, lt-ltb (first (ready q) ts) (length ts) (omega (arith, own.0, own.1))) (sym own.0))
+  top_found q d e = let own = first_some (ready q) ts e in rw (d, lt-ltb (first (ready q) ts) (length ts) (omega (arith, own.0, own.1))) (sym own.0)
 
   pub top_passed : {p : ℕ} (q : ℕ) → p ≡ suc q → None ≡ first_if_any (ready q) ts → top_below p ts ≡ top_below q ts
   unfolding top_below
