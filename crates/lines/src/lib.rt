@@ -4,7 +4,7 @@
 // table and says by `Becomes` what the table holds then. The members of a line are known by its mark.
 #![tactic(auto)]
 
-ghost use Rattle.std.specs.Prelude.{if◌then◌else◌, ◌≡◌, ℕ, ◌*◌, ◌^◌, ◌≤◌, ◌<◌, map};
+ghost use Rattle.std.specs.Prelude.{if◌then◌else◌, ◌≡◌, ℕ, ◌*◌, ◌^◌, ◌≤◌, ◌<◌, map, IfSome};
 ghost use Rattle.rules.specs.State.{State, at, is_ready, edit, with_place};
 ghost use Rattle.rules.specs.Lines.{ready, in_line, line_length, move_up, leave, filled, tail_place, join, move};
 ghost use Rattle.layout.specs.Boards.{HasThread};
@@ -67,7 +67,8 @@ pub fn line_length(t: &[u8], line: Line) -> u8
 // Which thread is the line's first, if it has one.
 pub fn first_of(t: &[u8], line: Line) -> Option<usize>
     requires { Whole t.now }
-    ensures { (s : State) → said t.now ≡ s → result ≡ first_if_any (named line) s.threads }
+    ensures thread { IfSome result (HasThread t.now) }
+    ensures first { (s : State) → said t.now ≡ s → result ≡ first_if_any (named line) s.threads }
 {
     let m = marks::first_mark(line);
     let threads = boards::threads(&t[..]);

@@ -1,11 +1,10 @@
 -- `ready::top_thread` meets its contract: no line from p on has a first, as the word says of those above its highest bit. Assumes nothing.
-use mathlib.Core.Path.{◌≡◌, refl, sym, ap, ◌∙◌}
+use mathlib.Core.Path.{◌≡◌, sym, ap, ◌∙◌}
 use native.Mathlib.Numerals.{add-one}
-use Rattle.layout.specs.Held.{said}
 use Prim.Native.Nat.{◌-◌}
 use native.Mathlib.Omega.{arith}
 use Rattle.rules.specs.Lines.{top_below, ready_word}
-use Rattle.layout.proofs.Boards.{sized, counted}
+use Rattle.layout.proofs.Boards.{counted}
 use Rattle.layout.proofs.Held.{whole_word}
 use Rattle.ready.proofs.Topmost.{top_found, top_passed, top_least, top_from, word_most, top_none}
 use Rattle.ready.proofs.top_thread.Goals as goal
@@ -23,13 +22,10 @@ loop-p-init c = λ s e.
     rw add-one (top_from s.threads r.result (word_most s.threads r.result (omega (arith, word, r.ensures.2))) r.ensures.0)
 
 pub returns-in-Some : goal.returns-in-Some
-returns-in-Some c = (
-  omega (arith, (top_found (said c.args.t.now).threads {p = c.loop-p.p} (c.loop-p.p - 1) (omega arith) (c.in-Some.ensures (said _) refl)).0, (sized c.requires.long refl).threads),
-  λ s e. sym (c.loop-p.invariant s e ∙ (top_found s.threads {p = c.loop-p.p} (c.loop-p.p - 1) (omega arith) (c.in-Some.ensures s e)).1),
-)
+returns-in-Some c = (c.in-Some.ensures.thread, λ s e. sym (c.loop-p.invariant s e ∙ top_found s.threads {p = c.loop-p.p} (c.loop-p.p - 1) (omega arith) (c.in-Some.ensures.first s e)))
 
 pub loop-p-preserved : goal.loop-p-preserved
-loop-p-preserved c = λ s e. c.loop-p.invariant s e ∙ top_passed s.threads (c.loop-p.p - 1) (omega arith) (c.in_default.ensures s e)
+loop-p-preserved c = λ s e. c.loop-p.invariant s e ∙ top_passed s.threads (c.loop-p.p - 1) (omega arith) (c.in_default.ensures.first s e)
 
 pub returns : goal.returns
 returns c = ((counted _ c.requires.long).some, λ s e. sym (c.loop-p.invariant s e ∙ ap (λ p. top_below p s.threads) (omega arith) ∙ top_least s.threads))
