@@ -4,7 +4,7 @@ ghost use Rattle.rules.specs.State.{State, at, edit, with_suspended, with_priori
 ghost use Rattle.rules.specs.Lines.{line, filled, move};
 ghost use Rattle.rules.specs.Threads.{created, deleted, stopped};
 ghost use Rattle.layout.specs.Boards.{HasThread};
-ghost use Rattle.layout.specs.Held.{said, Whole, Becomes, on_threads};
+ghost use Rattle.layout.specs.Held.{said, Whole, Becomes, Changes, on_threads};
 
 use marks::Line;
 use rules::{Outcome, Thread, Wait};
@@ -49,15 +49,21 @@ pub fn edit_suspended(t: &mut [u8], i: usize, suspended: bool)
     records::set_suspended(t, i, suspended);
 }
 
+// Thread `i`'s record is suspended, with counter 0.
+fn set_stopped(t: &mut [u8], i: usize)
+    requires { HasThread t.old i × Whole t.old }
+    ensures { Changes t.old t.new (on_threads (edit i stopped)) }
+{
+    records::set_suspended(t, i, true);
+    records::set_wait(t, i, Wait::Nothing { counter: 0 });
+}
+
 // Thread `i`, which is ready, is suspended: it leaves its line with counter 0.
 pub fn stop(t: &mut [u8], i: usize)
     requires { HasThread t.old i × Whole t.old }
     ensures { Becomes t.old t.new (on_threads (move i stopped)) }
 {
-    ready::moved(t, i, |t| {
-        records::set_suspended(t, i, true);
-        records::set_wait(t, i, Wait::Nothing { counter: 0 });
-    });
+    ready::moved(t, i, |t| set_stopped(t, i));
 }
 
 // Thread `i`, which waits for nothing, is resumed.

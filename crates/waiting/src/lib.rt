@@ -32,6 +32,15 @@ pub fn accept(t: &mut [u8], value: u32) -> Answer
 
 // A WAIT ENDS
 
+// Thread `i`'s record has the wait `w`, with that outcome and parcel.
+fn write_wait(t: &mut [u8], i: usize, w: Wait, outcome: Outcome, parcel: u32)
+    requires { HasThread t.old i × Whole t.old }
+    ensures { Changes t.old t.new (on_threads (edit i (λ x. with_outcome outcome parcel (with_wait w x)))) }
+{
+    records::set_outcome(t, i, outcome, parcel);
+    records::set_wait(t, i, w);
+}
+
 // Thread `i` leaves its line, its wait becomes `w` with that outcome and parcel, and it joins the line that it then belongs to. The place
 // that it has there is given back.
 fn change_wait(t: &mut [u8], i: usize, w: Wait, outcome: Outcome, parcel: u32) -> u8
@@ -39,13 +48,7 @@ fn change_wait(t: &mut [u8], i: usize, w: Wait, outcome: Outcome, parcel: u32) -
     ensures place { (s : State) → said t.new ≡ s → result ≡ (at s.threads i).place }
     ensures table { Becomes t.old t.new (on_threads (move i (λ x. with_outcome outcome parcel (with_wait w x)))) }
 {
-    ready::moved(t, i, |t|
-        requires { HasThread t.old i × Whole t.old }
-        ensures { Changes t.old t.new (on_threads (edit i (λ x. with_outcome outcome parcel (with_wait w x)))) }
-    {
-        records::set_outcome(t, i, outcome, parcel);
-        records::set_wait(t, i, w);
-    })
+    ready::moved(t, i, |t| write_wait(t, i, w, outcome, parcel))
 }
 
 // The wait of thread `i` ends: it leaves its line, and enters its ready line if it is not suspended.
