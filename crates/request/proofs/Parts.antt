@@ -1,11 +1,11 @@
 -- A record asks a request exactly when it has 12 bytes, byte 3 is zero, an operation has its number and each field is used or
 -- zero: these are the decoder's tests, one by one. Assumes nothing.
+use Rattle.std.proofs.lemmas.Option.{none-some}
 use Rattle.std.specs.Prelude.{if◌then◌else◌, None, Option, Some}
 use mathlib.Core.Path.{◌≡◌, refl}
 use mathlib.Core.Bool.{Bool, true, false, ◌&&◌}
 use mathlib.Core.List.{List}
 use Prim.Native.Nat.{ℕ}
-use native.Mathlib.Omega.{arith}
 use lib.Dec.{eqb}
 use lib.ListN.{length, get_or}
 use borrow.Author.Tests.{eqb-true, eq-eqb}
@@ -39,16 +39,13 @@ parts_asked r x =
     rw (eq-eqb (length r) request_length x.long, eq-eqb (get_or r 3 0) 0 x.zeroed, k.there, k.object, k.priority, k.number, k.parcel) refl
 
 -- what asks is no bad record
-asked_not : (q : Request) → None ≡ Some q → ⊥
-asked_not q e = let z : ◌≡◌ {A = ℕ} 0 1 = cc in omega arith
-
 passed : (b : Bool) (x : Option Request) (q : Request) → (if b then x else None) ≡ Some q → (b ≡ true) × (x ≡ Some q)
 passed true x q e = (refl, e)
-passed false x q e = absurd (asked_not q e)
+passed false x q e = absurd (none-some q e)
 
 kept_of : (m : Option Operation) (operation o p n d : ℕ) (q : Request) → operation_of operation ≡ m → asked_by m o p n d ≡ Some q
     → Kept operation o p n d
-kept_of None operation o p n d q h e = absurd (asked_not q e)
+kept_of None operation o p n d q h e = absurd (none-some q e)
 kept_of (Some u) operation o p n d q h e =
     let all = (passed (kept u.object o && kept u.priority p && kept u.number n && kept u.parcel d) (Some (u.asks o p n d)) q e).0 in
     let a = and_true (kept u.object o && kept u.priority p && kept u.number n) (kept u.parcel d) all in

@@ -8,7 +8,7 @@ use Rattle.rules.specs.Sound.{Sound}
 use Rattle.rules.specs.Waiting.{Step}
 use Rattle.rules.specs.Time.{do_tick}
 use Rattle.rules.specs.Sleep.{ticks}
-use Rattle.rules.specs.declared.Answer.{Answer}
+use Rattle.rules.specs.Answers.{Answer}
 use Rattle.layout.specs.Held.{said, Holds, Becomes}
 use Rattle.layout.proofs.Held.{whole_holds, becomes_as}
 use Rattle.preservation.proofs.Sleep.{sound_ticks}

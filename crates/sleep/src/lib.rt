@@ -15,7 +15,7 @@ ghost use Rattle.waiting.specs.Does.{Serves, Does};
 ghost use Rattle.fairness.specs.Run.{sum_turns};
 ghost use Rattle.leaps.specs.Ticks.{later, passed, ran, quiet_of, leap_unlocked, leap};
 
-use rules::{Answer, MOST_TICKS, Thread, Wait, refused};
+use rules::{Answer, MOST_TICKS, Refusal, Reply, Thread, Wait};
 
 // THE NEAREST END
 
@@ -30,24 +30,15 @@ fn time_left(w: Wait) -> u32
     }
 }
 
-// The smaller of two.
-fn least(a: u32, b: u32) -> u32
-    ensures { result ≡ min a b }
-{
-    if a < b { a } else { b }
-}
-
-// The smaller of two, where 0 is none.
+// The smaller of two, where 0 is none. It stays a number: the counter in the table says none by 0, and so does the answer of operation 22, so
+// that an Option would be made of the one and unmade for the other.
 fn sooner(a: u32, b: u32) -> u32
     ensures { result ≡ sooner a b }
 {
-    if a == 0 {
-        return b;
+    match (a, b) {
+        (0, n) | (n, 0) => n,
+        _ => a.min(b),
     }
-    if b == 0 {
-        return a;
-    }
-    least(a, b)
 }
 
 // The ticks that are left of thread `i`'s wait.
@@ -55,9 +46,7 @@ fn left_of(t: &[u8], i: usize) -> u32
     requires { HasThread t.now i × Long t.now }
     ensures { (s : State) → said t.now ≡ s → result ≡ time_left (at s.threads i).wait }
 {
-    let th = records::load_thread(t, i);
-    let w = th.wait;
-    time_left(w)
+    time_left(records::load_thread(t, i).wait)
 }
 
 // The ticks after which some timed wait ends; 0 where there is none.
@@ -65,10 +54,8 @@ fn nearest_end(t: &[u8]) -> u32
     requires { Long t.now }
     ensures { (s : State) → said t.now ≡ s → result ≡ nearest s.threads }
 {
-    let mut i = boards::threads(t);
-    let mut n: u32 = 0;
-    while 0 < i {
-        i -= 1;
+    let mut n = 0;
+    for i in (0..boards::threads(t)).rev() {
         n = sooner(left_of(t, i), n);
     }
     n
@@ -78,9 +65,9 @@ pub fn nearest(t: &[u8]) -> Answer
     requires { Serves t.now }
     ensures { Does t.now t.now result do_nearest }
 {
-    Answer::Done {
+    Ok(Reply::Done {
         value: nearest_end(t),
-    }
+    })
 }
 
 // WHERE NO WAIT ENDS
@@ -93,18 +80,10 @@ fn quiet_of(t: &[u8], n: u32) -> u32
     if n <= 1 {
         return 0;
     }
-    let w = nearest_end(t);
-    if w == 0 {
-        return n;
+    match nearest_end(t) {
+        0 => n,
+        w => n.min(w - 1),
     }
-    least(n, w - 1)
-}
-
-// `c` less `m`, and 0 where that is less than none.
-fn less(c: u32, m: u32) -> u32
-    ensures { result ≡ c - m }
-{
-    if c < m { 0 } else { c - m }
 }
 
 // The wait of thread `i`, if it has one, `m` ticks later.
@@ -112,11 +91,10 @@ fn pass_one(t: &mut [u8], i: usize, m: u32)
     requires { HasThread t.old i × Whole t.old }
     ensures { Becomes t.old t.new (on_threads (edit i (later m))) }
 {
-    let th = records::load_thread(t, i);
-    let w = th.wait;
+    let w = records::load_thread(t, i).wait;
     if records::is_waiting(w) {
         let c = records::counter_of(w);
-        records::set_counter(t, i, less(c, m));
+        records::set_counter(t, i, c.saturating_sub(m));
     }
 }
 
@@ -150,14 +128,14 @@ fn round(t: &[u8], priority: u8, most: u32) -> u32
     ensures exact { result ≤ most → result ≡ sum_turns priority (said t.now).threads }
     ensures above { most < result → most < sum_turns priority (said t.now).threads }
 {
+    // A sum by an iterator goes over all threads, and takes more stack than a loop that stops.
     let mut turns: u32 = 0;
     let threads = boards::threads(t);
     for j in 0..threads {
         if turns > most {
             return turns;
         }
-        let th = records::load_thread(t, j);
-        turns += turn_at(th, priority);
+        turns += turn_at(records::load_thread(t, j), priority);
     }
     turns
 }
@@ -196,13 +174,12 @@ fn leap_unlocked(t: &mut [u8], q: u32) -> Leapt
         pass(t, far);
         return Leapt { far, rounds };
     }
-    let w = th.wait;
-    let left = records::counter_of(w);
+    let left = records::counter_of(th.wait);
     if left <= 1 {
-        time::tick(t);
+        let _ = time::tick(t);
         return Leapt { far: 1, rounds: 0 };
     }
-    let far = least(q, left - 1);
+    let far = q.min(left - 1);
     run_on(t, r, left, far);
     Leapt { far, rounds: 0 }
 }
@@ -215,7 +192,7 @@ pub fn leap(t: &mut [u8], n: u32) -> Leapt
 {
     let q = quiet_of(t, n);
     if q == 0 {
-        time::tick(t);
+        let _ = time::tick(t);
         return Leapt { far: 1, rounds: 0 };
     }
     if records::lock(t) > 0 {
@@ -230,16 +207,14 @@ pub fn ticks(t: &mut [u8], n: u32) -> Answer
     requires { Serves t.old }
     ensures { Does t.old t.new result (λ s. do_ticks s n) }
 {
-    if n == 0 {
-        return refused::BAD_TICKS;
+    if n == 0 || n > MOST_TICKS {
+        return Err(Refusal::BadTicks);
     }
-    if n > MOST_TICKS {
-        return refused::BAD_TICKS;
-    }
+    // No index is counted here: a leap says how many ticks it did.
     let mut left = n;
     while 0 < left {
         let l = leap(t, left);
         left -= l.far;
     }
-    Answer::Done { value: 0 }
+    Ok(Reply::Done { value: 0 })
 }

@@ -6,28 +6,13 @@ use Rattle.sleep.proofs.Arms.{by_end, by_lock, by_rank}
 use Rattle.sleep.proofs.Leaping.{becomes_of, tells_as}
 use Rattle.sleep.proofs.leap.Goals as goal
 
-pub quiet_of-q-requires : goal.quiet_of-q-requires
-quiet_of-q-requires c = c.requires.0.whole.long
-
-pub tick-requires : goal.tick-requires
-tick-requires c = c.requires.0
-
 pub returns-then-q-eq0 : goal.returns-then-q-eq0
 returns-then-q-eq0 c = tells_as _ _ _ _ tick_of (leap c.args.n) (record { leapt = λ s h. (refl, refl); table = becomes_of c.tick.ensures }) (λ s h.
     by_end c.args.n c.quiet_of-q.result s (sym (c.quiet_of-q.ensures s h.says)) c.if-q-eq0.true)
 
-pub lock-requires : goal.lock-requires
-lock-requires c = c.requires.0.whole.long
-
-pub pass-requires : goal.pass-requires
-pass-requires c = c.requires.0.whole
-
 pub returns-then-lock-gt0 : goal.returns-then-lock-gt0
 returns-then-lock-gt0 c = tells_as _ _ _ _ (locked_of c.quiet_of-q.result) (leap c.args.n) (record { leapt = λ s h. (refl, refl); table = c.pass.ensures }) (λ s h.
     by_lock c.args.n c.quiet_of-q.result s (sym (c.quiet_of-q.ensures s h.says)) c.if-q-eq0.false (λ z. omega (arith, c.lock.ensures s h.says, c.if-lock-gt0.true, z)))
-
-pub leap_unlocked-requires : goal.leap_unlocked-requires
-leap_unlocked-requires c = c.requires.0
 
 pub returns : goal.returns
 returns c = tells_as _ _ _ _ (leap_unlocked c.quiet_of-q.result) (leap c.args.n) c.leap_unlocked.ensures (λ s h.

@@ -2,13 +2,13 @@
 -- rule's. Assumes nothing.
 use mathlib.Core.Path.{◌≡◌, refl, ap, sym, ◌∙◌}
 use mathlib.Core.List.{List}
-use Prim.Native.Nat.{ℕ, pred, ◌/◌, ◌≤◌, min}
+use Prim.Native.Nat.{ℕ, pred, ◌/◌, min}
 use native.Mathlib.Omega.{arith}
 use Rattle.rules.specs.State.{State, at, caller, counter_of}
 use Rattle.rules.specs.declared.Thread.{Thread}
 use Rattle.fairness.specs.Run.{sum_turns}
 use Rattle.leaps.specs.Ticks.{tick_of, rounds_of, turn_of, leap_unlocked}
-use Rattle.leaps.proofs.Leaps.{round_some, rounds_most}
+use Rattle.leaps.proofs.Leaps.{round_some}
 use Rattle.sleep.proofs.Arms.{by_rounds, by_tick, by_turn}
 use Rattle.sleep.proofs.Leaping.{becomes_of, tells_as}
 use Rattle.layout.specs.Held.{said}
@@ -25,25 +25,8 @@ module _ (t : List ℕ) {r : ℕ} {th : Thread} (runs : (s : State) → said t �
   counts : {left : ℕ} → left ≡ counter_of th.wait → (s : State) → said t ≡ s → left ≡ counter_of (caller s).wait
   counts left s e = left ∙ ap (λ x. counter_of x.wait) (own s e)
 
-pub running-r-requires : goal.running-r-requires
-running-r-requires c = c.requires.whole.long
-
-pub load_thread-th-requires : goal.load_thread-th-requires
-load_thread-th-requires c = (omega (arith, c.running-r.ensures _ refl, c.requires.runs), c.requires.whole.long)
-
-pub round-whole-requires : goal.round-whole-requires
-round-whole-requires c = (c.requires.whole.long, c.requires.sound)
-
 pub nonzero_div-rounds : goal.nonzero_div-rounds
 nonzero_div-rounds c = omega (arith, round_some _ c.requires.sound, rank _ c.running-r.ensures c.load_thread-th.ensures _ refl, c.round-whole.ensures.exact c.if-whole-q.true)
-
-pub overflow_mul-far : goal.overflow_mul-far
-overflow_mul-far c =
-    let some : 1 ≤ c.round-whole.result = omega (arith, round_some _ c.requires.sound, rank _ c.running-r.ensures c.load_thread-th.ensures _ refl, c.round-whole.ensures.exact c.if-whole-q.true) in
-    omega (arith, rounds_most c.args.q c.round-whole.result some)
-
-pub pass-requires : goal.pass-requires
-pass-requires c = c.requires.whole
 
 pub returns-then-whole-q : goal.returns-then-whole-q
 returns-then-whole-q c =
@@ -52,9 +35,6 @@ returns-then-whole-q c =
     tells_as _ _ _ _ (rounds_of (q / whole) whole) (leap_unlocked q) (record { leapt = λ s h. (refl, refl); table = c.pass.ensures }) (λ s h.
     by_rounds q s whole (rank _ c.running-r.ensures c.load_thread-th.ensures s h.says ∙ sym (c.round-whole.ensures.exact c.if-whole-q.true)) c.if-whole-q.true)
 
-pub tick-requires : goal.tick-requires
-tick-requires c = c.requires
-
 pub returns-then-left-le1 : goal.returns-then-left-le1
 returns-then-left-le1 c = tells_as _ _ _ _ tick_of (leap_unlocked c.args.q) (record { leapt = λ s h. (refl, refl); table = becomes_of c.tick.ensures }) (λ s h.
     by_tick c.args.q s (omega (arith, rank _ c.running-r.ensures c.load_thread-th.ensures s h.says, c.round-whole.ensures.above (omega (arith, c.if-whole-q.false))))
@@ -62,13 +42,13 @@ returns-then-left-le1 c = tells_as _ _ _ _ tick_of (leap_unlocked c.args.q) (rec
 
 pub run_on-requires : goal.run_on-requires
 run_on-requires c = record {
-  has_thread = (omega (arith, c.running-r.ensures _ refl, c.requires.runs), omega (arith, c.least-far.ensures), c.requires.whole);
+  has_thread = (omega (arith, c.running-r.ensures _ refl, c.requires.runs), omega (arith, c.min-far.ensures), c.requires.whole);
   r_value = λ s e. (c.running-r.ensures s e, counts _ c.running-r.ensures c.load_thread-th.ensures c.counter_of-left.ensures s e);
 }
 
 pub returns : goal.returns
-returns c = tells_as _ _ _ _ (turn_of c.least-far.result) (leap_unlocked c.args.q) (record { leapt = λ s h. (refl, refl); table = c.run_on.ensures }) (λ s h.
+returns c = tells_as _ _ _ _ (turn_of c.min-far.result) (leap_unlocked c.args.q) (record { leapt = λ s h. (refl, refl); table = c.run_on.ensures }) (λ s h.
     let left = counts _ c.running-r.ensures c.load_thread-th.ensures c.counter_of-left.ensures s h.says in
-    let far : min c.args.q (pred (counter_of (caller s).wait)) ≡ c.least-far.result = omega (arith, left, c.least-far.ensures) in
+    let far : min c.args.q (pred (counter_of (caller s).wait)) ≡ c.min-far.result = omega (arith, left, c.min-far.ensures) in
     by_turn c.args.q s (omega (arith, rank _ c.running-r.ensures c.load_thread-th.ensures s h.says, c.round-whole.ensures.above (omega (arith, c.if-whole-q.false)))) (omega (arith, left, c.if-left-le1.false))
     ∙ ap (λ m. turn_of m s) far)

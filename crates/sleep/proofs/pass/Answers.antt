@@ -7,20 +7,8 @@ use Rattle.layout.proofs.Held.{◌⨾◌, becomes_as, becomes_same, holds_sized}
 use Rattle.laws.proofs.Turns.{map_to_none, map_to_turn, map_to_all}
 use Rattle.sleep.proofs.pass.Goals as goal
 
-pub threads-threads-requires : goal.threads-threads-requires
-threads-threads-requires c = c.requires.long
-
 pub loop-i-init : goal.loop-i-init
 loop-i-init c = (omega arith, refl, becomes_same c.requires (λ s h. ap (λ ts. with_threads ts s) (map_to_none (later c.args.m) s.threads)))
-
-pub pass_one-requires : goal.pass_one-requires
-pass_one-requires c = (omega (arith, c.threads-threads.ensures, c.loop-i.invariant.1), c.loop-i.invariant.2.whole)
-
-pub overflow_step-i : goal.overflow_step-i
-overflow_step-i c = omega arith
-
-pub loop-i-smaller : goal.loop-i-smaller
-loop-i-smaller c = omega arith
 
 pub loop-i-preserved : goal.loop-i-preserved
 loop-i-preserved c = (
@@ -29,9 +17,6 @@ loop-i-preserved c = (
   becomes_as (c.loop-i.invariant.2 ⨾ c.pass_one.ensures) (λ s h.
       ap (λ ts. with_threads ts s) (map_to_turn (later c.args.m) c.loop-i.i s.threads free (omega (arith, c.threads-threads.ensures, (holds_sized h).threads)))),
 )
-
-pub shape_of-t : goal.shape_of-t
-shape_of-t c = c.loop-i.invariant.1
 
 pub returns : goal.returns
 unfolding passed

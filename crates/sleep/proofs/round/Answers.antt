@@ -14,34 +14,19 @@ use Rattle.fairness.specs.Run.{sum_turns}
 use Rattle.leaps.proofs.Turns.{turns_turn, turns_front, turn_most}
 use Rattle.sleep.proofs.round.Goals as goal
 
-pub threads-threads-requires : goal.threads-threads-requires
-threads-threads-requires c = c.requires.0
-
-pub loop-j-init : goal.loop-j-init
-loop-j-init c = (omega arith, omega arith, refl)
-
 pub returns-then-turns-most : goal.returns-then-turns-most
 returns-then-turns-most c = record {
   exact = λ h. absurd (omega (arith, h, c.if-turns-most.true));
   above = λ h. omega (arith, h, c.loop-j.invariant.2, turns_front c.args.priority c.loop-j.j (said c.args.t.now).threads);
 }
 
-pub load_thread-th-requires : goal.load_thread-th-requires
-load_thread-th-requires c = (omega (arith, c.threads-threads.ensures), c.requires.0)
-
 pub overflow_add-turns : goal.overflow_add-turns
 overflow_add-turns c =
     let s = said c.args.t.now in
     let p = c.args.priority in
     let j = c.loop-j.j in
-    let turned : c.turn_at-turns.result ≡ (if in_line (ready p) (at s.threads j) then (at s.threads j).turn else 0) = rw (c.load_thread-th.ensures _ refl) at c.turn_at-turns.ensures in
+    let turned : c.turn_at-turns.result ≡ (if in_line (ready p) (at s.threads j) then (at s.threads j).turn else 0) = rw (c.load_thread.ensures _ refl) at c.turn_at-turns.ensures in
     record { fits = omega (arith, turned, c.threads-threads.ensures, c.loop-j.invariant.0, c.loop-j.invariant.1, turn_most s c.requires.1 p j) }
-
-pub overflow_step-j : goal.overflow_step-j
-overflow_step-j c = omega arith
-
-pub loop-j-smaller : goal.loop-j-smaller
-loop-j-smaller c = omega arith
 
 pub loop-j-preserved : goal.loop-j-preserved
 loop-j-preserved c =
@@ -49,7 +34,7 @@ loop-j-preserved c =
     let p = c.args.priority in
     let j = c.loop-j.j in
     let inv = c.loop-j.invariant in
-    let turned : c.turn_at-turns.result ≡ (if in_line (ready p) (at s.threads j) then (at s.threads j).turn else 0) = rw (c.load_thread-th.ensures _ refl) at c.turn_at-turns.ensures in
+    let turned : c.turn_at-turns.result ≡ (if in_line (ready p) (at s.threads j) then (at s.threads j).turn else 0) = rw (c.load_thread.ensures _ refl) at c.turn_at-turns.ensures in
     let more : j < length s.threads = omega (arith, c.loop-j-test.true, c.threads-threads.ensures, (sized c.requires.0 refl).threads) in (
       omega (arith, c.loop-j-test.true),
       omega (arith, turned, inv.1, turn_most s c.requires.1 p j),
