@@ -10,9 +10,10 @@ ghost use Rattle.rules.specs.Door.{door};
 ghost use Rattle.layout.specs.Held.{board};
 ghost use Rattle.waiting.specs.Does.{Serves, Does};
 
-use rules::{AREA, Answer, Decoded, Request, refused};
+use rules::{AREA, Answer, Refusal, Request};
 
-// A step: each request by its own operation.
+// A step: each request by its own operation. It stays a match, which is checked to have all of them: a table of operations would name as many.
+#[tactic(auto, unfolding(rules::specs::Steps::step))]
 fn step(t: &mut [u8], request: Request) -> Answer
     requires { Serves t.old }
     ensures { Does t.old t.new result (λ s. step s request) }
@@ -61,24 +62,22 @@ fn step(t: &mut [u8], request: Request) -> Answer
 fn can_serve(table: &[u8], answer: &[u8]) -> bool
     ensures { result ≡ (eqb (length answer.now) area_length && sound_table (board table.now) table.now) }
 {
-    if answer.len() != AREA {
-        return false;
-    }
-    sound::sound(table)
+    answer.len() == AREA && sound::sound(table)
 }
 
 // The door: for every table, record and answer area, whatever their lengths and bytes. The code is given back too.
+#[tactic(auto, unfolding(rules::specs::Door::door, rules::specs::Door::serve_decoded))]
 pub fn speltmallet_door(table: &mut [u8], request: &[u8], answer: &mut [u8]) -> i32
     ensures code { result ≡ (door printer table.old request.now answer.old).code }
     ensures table { table.new ≡ (door printer table.old request.now answer.old).table }
     ensures area { answer.new ≡ (door printer table.old request.now answer.old).area }
 {
     if !can_serve(table, answer) {
-        return answer::code(refused::BAD_TABLE);
+        return i32::from(Refusal::BadTable);
     }
-    let Decoded::Asked { request: asked } = request::decode(request) else {
-        answer::put_answer(answer, refused::BAD_RECORD);
-        return answer::code(refused::BAD_RECORD);
+    let Some(asked) = request::decode(request) else {
+        answer::put_answer(answer, Err(Refusal::BadRecord));
+        return i32::from(Refusal::BadRecord);
     };
     let given = step(table, asked);
     answer::put_answer(answer, given);

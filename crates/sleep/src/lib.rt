@@ -30,7 +30,8 @@ fn time_left(w: Wait) -> u32
     }
 }
 
-// The smaller of two, where 0 is none.
+// The smaller of two, where 0 is none. It stays a number: the counter in the table says none by 0, and so does the answer of operation 22, so
+// that an Option would be made of the one and unmade for the other.
 fn sooner(a: u32, b: u32) -> u32
     ensures { result ≡ sooner a b }
 {
@@ -127,6 +128,7 @@ fn round(t: &[u8], priority: u8, most: u32) -> u32
     ensures exact { result ≤ most → result ≡ sum_turns priority (said t.now).threads }
     ensures above { most < result → most < sum_turns priority (said t.now).threads }
 {
+    // A sum by an iterator goes over all threads, and takes more stack than a loop that stops.
     let mut turns: u32 = 0;
     let threads = boards::threads(t);
     for j in 0..threads {
@@ -208,6 +210,7 @@ pub fn ticks(t: &mut [u8], n: u32) -> Answer
     if n == 0 || n > MOST_TICKS {
         return Err(Refusal::BadTicks);
     }
+    // No index is counted here: a leap says how many ticks it did.
     let mut left = n;
     while 0 < left {
         let l = leap(t, left);

@@ -12,7 +12,7 @@ use rules::{Answer, Outcome, Refusal, Reply, Wait};
 
 // THE LOCK
 
-// "Lock −5 at 255": there its byte counts no further.
+// "Lock −5 at 255": the lock's byte goes no higher.
 pub fn lock(t: &mut [u8]) -> Answer
     requires { Serves t.old }
     ensures { Does t.old t.new result do_lock }

@@ -4,7 +4,7 @@
 // rule, and that the answer is the rule's too.
 #![tactic(auto)]
 
-ghost use Rattle.std.specs.Prelude.{if◌then◌else◌, true, ◌≡◌, ℕ, Ok, Err};
+ghost use Rattle.std.specs.Prelude.{if◌then◌else◌, true, ◌≡◌, ℕ, Ok, Err, OnOk};
 ghost use Rattle.rules.specs.State.{State, at, waiting, edit, with_wait, with_outcome};
 ghost use Rattle.rules.specs.Lines.{move};
 ghost use Rattle.rules.specs.Waiting.{accept, end_wait, serve, block, may_not_wait, wait_counter, must_wait};
@@ -85,7 +85,8 @@ pub fn serve(t: &mut [u8], n: u8, line: Line, outcome: Outcome)
 // Thread `i`, if it is in use. "Thread number above 15, or free" is refused by −1.
 pub fn in_use(t: &[u8], i: u8) -> Result<Thread, Refusal>
     requires { Long t.now }
-    ensures { (s : State) → said t.now ≡ s → result ≡ (if no_thread s i then Err BadThread else Ok (at s.threads i)) }
+    ensures thread { (s : State) → said t.now ≡ s → result ≡ (if no_thread s i then Err BadThread else Ok (at s.threads i)) }
+    ensures on_board { OnOk result (HasThread t.now i) }
 {
     let th = records::thread_at(t, i);
     if th.used {
@@ -97,6 +98,7 @@ pub fn in_use(t: &[u8], i: u8) -> Result<Thread, Refusal>
 
 // The wait of thread `i` ends with −5, where `named` says whether it is of the kind that the operation names. Refused in the order −1, −4.
 // It stays a flag: the theorem `waiting_break_off` says that the promise determines the answer, and no promise on a closure does.
+#[tactic(auto, unfolding(rules::specs::Threads::break_off), using(crate::proofs::Doing::does_nothing, crate::proofs::Doing::then_does))]
 pub fn break_off(t: &mut [u8], i: u8, named: bool) -> Answer
     requires { Serves t.old }
     ensures { Does t.old t.new result (λ s. break_off (λ w. named) s i) }
@@ -145,6 +147,7 @@ pub fn wait_counter(n: u32) -> u32
 }
 
 // A call that must wait by wait number `n`: `w` is the wait, with the counter that the number leaves.
+#[tactic(auto, unfolding(rules::specs::Waiting::must_wait), using(crate::proofs::Doing::does_nothing, crate::proofs::Doing::does_as))]
 pub fn must_wait(t: &mut [u8], n: u32, w: Wait, parcel: u32) -> Answer
     requires { (waiting w ≡ true) × Serves t.old }
     ensures { (kind : ℕ → Wait) → w ≡ kind (wait_counter n) → Does t.old t.new result (λ s. must_wait s n kind parcel) }

@@ -3,13 +3,9 @@ use native.Mathlib.Omega.{arith}
 use lib.ListN.{get_or-eq_default}
 use Rattle.rules.specs.State.{free}
 use Rattle.rules.specs.declared.Outcome.TheVariants.{Done}
-use Rattle.layout.proofs.Held.{◌⨾◌, becomes_as, holds_sized}
+use Rattle.layout.proofs.Held.{becomes_as, holds_sized}
 use Rattle.waiting.proofs.Waits.{end_out}
 use Rattle.mail.proofs.move_in.Goals as goal
-
-pub returns-then-i-threads : goal.returns-then-i-threads
-returns-then-i-threads c =
-    becomes_as (c.end_wait.ensures ⨾ c.set_mail.ensures) (λ s h. rw (← c.load_thread-th.ensures s h.says))
 
 pub returns-else-i-threads : goal.returns-else-i-threads
 returns-else-i-threads c = becomes_as c.set_mail-else-i-threads.ensures (λ s h. rw (end_out c.args.i Done 0 s.threads (omega (arith, c.threads.ensures, (holds_sized h).threads)), get_or-eq_default s.threads free {n = c.args.i} (omega (arith, c.threads.ensures, (holds_sized h).threads))))
