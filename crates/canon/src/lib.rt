@@ -14,6 +14,7 @@ use rules::{RECORD, field};
 // ZEROS: bytes are tested eight at a time
 
 // Is a number 0, and every byte past the first eight of the record that starts at byte `base`?
+#[tactic(auto, using(laws::proofs::Bitwise::or_none, crate::proofs::Zeros::longs_behind, crate::proofs::Zeros::behind_longs))]
 fn zero_behind(t: &[u8], base: usize, first: u64) -> bool
     requires { base + record_length ≤ length t.now }
     ensures { (result ≡ true) ↔ ((first ≡ 0) × ((k : ℕ) → 8 ≤ k → k < record_length → get_or t.now (base + k) 0 ≡ 0)) }
@@ -22,6 +23,7 @@ fn zero_behind(t: &[u8], base: usize, first: u64) -> bool
 }
 
 // Is every byte of thread `i`'s record 0?
+#[tactic(auto, using(laws::proofs::Split::pass_together, crate::proofs::Zeros::record_is_zero))]
 pub fn thread_zero(t: &[u8], i: usize) -> bool
     requires { HasThread t.now i × Long t.now }
     ensures { result ≡ record_zero t.now (i * record_length) }
@@ -31,6 +33,7 @@ pub fn thread_zero(t: &[u8], i: usize) -> bool
 }
 
 // Is every byte 0 past the first two of the record that starts at byte `base`?
+#[tactic(auto, using(laws::proofs::Split::pass_together, crate::proofs::Zeros::rest_is_zero))]
 fn rest_zero(t: &[u8], base: usize) -> bool
     requires { base + record_length ≤ length t.now }
     ensures { result ≡ rest_zero 2 t.now base }
@@ -77,6 +80,7 @@ pub fn sem_canon(t: &[u8], k: usize) -> bool
 }
 
 // The kernel's record: every byte 0 past the ready word, which ends with the sixth.
+#[tactic(auto, using(laws::proofs::Split::pass_together, crate::proofs::Zeros::kernel_is_zero))]
 pub fn kernel_canon(t: &[u8]) -> bool
     requires { Long t.now }
     ensures { result ≡ rest_zero 6 t.now (kernel_from (board t.now)) }

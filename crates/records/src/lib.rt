@@ -240,6 +240,7 @@ pub fn free_thread(t: &mut [u8], i: usize)
 // SEMAPHORES
 
 // Semaphore `k`.
+#[tactic(auto, using(layout::proofs::Boards::sem_told), unfolding(rules::specs::Table::sem_of, layout::specs::Bytes::record_at, layout::specs::Bytes::tabulate))]
 pub fn load_sem(t: &[u8], k: usize) -> Sem
     requires { HasSem t.now k × Long t.now }
     ensures { (s : State) → said t.now ≡ s → result ≡ sem_at s.sems k }
@@ -264,6 +265,7 @@ pub fn set_sem(t: &mut [u8], k: usize, e: Sem)
 // THE KERNEL
 
 // The running thread's number.
+#[tactic(auto, using(layout::proofs::Boards::running_told))]
 pub fn running(t: &[u8]) -> usize
     requires { Long t.now }
     ensures { (s : State) → said t.now ≡ s → result ≡ s.running }
@@ -272,6 +274,7 @@ pub fn running(t: &[u8]) -> usize
 }
 
 // The lock count.
+#[tactic(auto, using(layout::proofs::Boards::lock_told))]
 pub fn lock(t: &[u8]) -> u8
     requires { Long t.now }
     ensures { (s : State) → said t.now ≡ s → result ≡ s.lock }
