@@ -64,6 +64,7 @@ pub fn moved<F: FnOnce(&mut [u8])>(t: &mut [u8], i: usize, change: F) -> u8
     requires table { HasThread t.old i × Whole t.old }
     requires change { (rule : Thread → Thread) × ChangesThread F.FnOnce change i rule }
     ensures place { (s : State) → said t.new ≡ s → result ≡ (at s.threads i).place }
+    ensures whole { Whole t.new }
     ensures table { (rule : Thread → Thread) → ChangesThread F.FnOnce change i rule → Becomes t.old t.new (on_threads (move i rule)) }
 {
     let left = leave(t, i);

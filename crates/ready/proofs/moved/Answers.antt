@@ -46,5 +46,6 @@ returns g c =
     let by = c.requires.change in
     record {
       place = joined i (omega (arith, inside, c.change.auto, c.mend.auto)) (there by.0 by.1).whole c.join.ensures.place c.join.ensures.table;
+      whole = c.join.ensures.table.whole;
       table = λ rule p. left.table ⨾ there rule p ⨾ c.join.ensures.table;
     }
