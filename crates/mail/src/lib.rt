@@ -12,6 +12,7 @@ ghost use Rattle.layout.specs.Boards.{HasThread};
 ghost use Rattle.layout.specs.Held.{Whole, Becomes, on_threads};
 ghost use Rattle.waiting.specs.Does.{Serves, Does};
 
+use marks::Line;
 use rules::{Answer, Outcome, Refusal, Wait};
 
 // SEND
@@ -65,33 +66,21 @@ pub fn send_from_interrupt(t: &mut [u8], i: u8, parcel: u32) -> Answer
 
 // RECEIVE
 
-// The parcel of thread `i` moves into the mailbox of thread `r`, and the wait of thread `i` ends. Where there is no thread `i`, its
-// parcel is 0.
-fn move_in(t: &mut [u8], r: usize, i: usize)
+// The value of thread `r`'s mailbox is taken: the parcel of the first of its senders moves in, and that one's wait ends; with no sender the
+// mailbox is empty. Where senders stand in the line and none is first, which no sound table shows, a parcel of 0 moves in.
+fn empty_mailbox(t: &mut [u8], r: usize)
     requires { HasThread t.old r × Whole t.old }
-    ensures { Becomes t.old t.new (on_threads (λ ts. edit r (with_mail true (at ts i).parcel) (end_wait i Done 0 ts))) }
+    ensures { Becomes t.old t.new (on_threads (emptied r)) }
 {
-    if i < boards::threads(t) {
+    let line = Line::Senders { thread: r as u8 };
+    if lines::line_length(t, line) == 0 {
+        records::set_mail(t, r, false, 0);
+    } else if let Some(i) = lines::first_of(t, line) {
         let th = records::load_thread(t, i);
         waiting::end_wait(t, i, Outcome::Done, 0);
         records::set_mail(t, r, true, th.parcel);
     } else {
         records::set_mail(t, r, true, 0);
-    }
-}
-
-// The value of thread `r`'s mailbox is taken: the parcel of the first of its senders moves in; with no sender the mailbox is empty.
-#[tactic(auto, unfolding(rules::specs::Mail::emptied), using(layout::proofs::Held::becomes_as))]
-fn empty_mailbox(t: &mut [u8], r: usize)
-    requires { HasThread t.old r × Whole t.old }
-    ensures { Becomes t.old t.new (on_threads (emptied r)) }
-{
-    let line = marks::senders_line(r as u8);
-    if lines::line_length(t, line) == 0 {
-        records::set_mail(t, r, false, 0);
-    } else {
-        let i = lines::first_of(t, line);
-        move_in(t, r, i);
     }
 }
 

@@ -13,6 +13,7 @@ ghost use Rattle.layout.specs.Boards.{HasSem};
 ghost use Rattle.layout.specs.Held.{Long, said, Whole, Becomes};
 ghost use Rattle.waiting.specs.Does.{Serves, Does};
 
+use marks::Line;
 use rules::{Answer, Outcome, Refusal, Sem, Wait};
 
 // "Semaphore count 0 to 99": the most of it, as a request's number.
@@ -69,7 +70,7 @@ pub fn drop_semaphore(t: &mut [u8], k: u8) -> Answer
     ensures { Does t.old t.new result (λ s. do_drop s k) }
 {
     in_use(t, k)?;
-    let line = marks::waiters_line(k);
+    let line = Line::Waiters { semaphore: k };
     let n = lines::line_length(t, line);
     waiting::serve(t, n, line, Outcome::Failed);
     records::set_sem(
@@ -125,7 +126,7 @@ pub fn post(t: &mut [u8], k: u8, n: u32) -> Answer
     ensures { Does t.old t.new result (λ s. do_post s k n) }
 {
     let e = in_use(t, k)?;
-    let line = marks::waiters_line(k);
+    let line = Line::Waiters { semaphore: k };
     let served = n.min(u32::from(lines::line_length(t, line)));
     let over = n - served;
     if too_many(e.count, n, over) {
