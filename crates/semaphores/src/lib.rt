@@ -4,7 +4,7 @@
 // The promises are those of crate `waiting`: `Becomes` for a change, `Does` for an operation.
 #![tactic(auto)]
 
-ghost use Rattle.std.specs.Prelude.{if◌then◌else◌, ◌||◌, ◌≡◌, ◌+◌, eqb, ltb, Ok, Err};
+ghost use Rattle.std.specs.Prelude.{if◌then◌else◌, ◌||◌, ◌≡◌, ◌+◌, eqb, ltb, Ok, Err, OnOk};
 ghost use Rattle.rules.specs.Board.{most_count};
 ghost use Rattle.rules.specs.State.{State, sem_at};
 ghost use Rattle.rules.specs.Semaphores.{no_sem, with_count, do_make, do_drop, do_pend, do_abort, do_post, do_post_from_interrupt};
@@ -24,7 +24,8 @@ const MOST_COUNT: u32 = rules::MOST_COUNT as u32;
 // Semaphore `k`, if it is in use. "Semaphore number above 7, or free" is refused by −6.
 fn in_use(t: &[u8], k: u8) -> Result<Sem, Refusal>
     requires { Long t.now }
-    ensures { (s : State) → said t.now ≡ s → result ≡ (if no_sem s k then Err BadSemaphore else Ok (sem_at s.sems k)) }
+    ensures semaphore { (s : State) → said t.now ≡ s → result ≡ (if no_sem s k then Err BadSemaphore else Ok (sem_at s.sems k)) }
+    ensures on_board { OnOk result (HasSem t.now k) }
 {
     let j = k as usize;
     if j >= boards::semaphores(t) {
@@ -65,6 +66,7 @@ pub fn make(t: &mut [u8], k: u8, n: u32) -> Answer
 }
 
 // Its waiters end with −5 in line order, and its record is free. Refused by −6.
+#[tactic(auto, unfolding(rules::specs::Semaphores::do_drop), using(waiting::proofs::Doing::does_nothing))]
 pub fn drop_semaphore(t: &mut [u8], k: u8) -> Answer
     requires { Serves t.old }
     ensures { Does t.old t.new result (λ s. do_drop s k) }
@@ -87,6 +89,7 @@ pub fn drop_semaphore(t: &mut [u8], k: u8) -> Answer
 // PEND AND ABORT
 
 // One is taken and the value is what is left, or the caller must wait by number `n`. Refused in the order −6, −5.
+#[tactic(auto, unfolding(rules::specs::Semaphores::do_pend), using(waiting::proofs::Doing::does_nothing, waiting::proofs::Doing::then_does))]
 pub fn pend(t: &mut [u8], k: u8, n: u32) -> Answer
     requires { Serves t.old }
     ensures { Does t.old t.new result (λ s. do_pend s k n) }
@@ -102,6 +105,7 @@ pub fn pend(t: &mut [u8], k: u8, n: u32) -> Answer
 }
 
 // A wait on a semaphore is broken off.
+#[tactic(auto, unfolding(rules::specs::Semaphores::do_abort, rules::specs::Threads::break_off), using(waiting::proofs::Doing::does_as))]
 pub fn abort(t: &mut [u8], i: u8) -> Answer
     requires { Serves t.old }
     ensures { Does t.old t.new result (λ s. do_abort s i) }
@@ -121,6 +125,7 @@ fn too_many(count: u8, n: u32, over: u32) -> bool
 }
 
 // The units go to the waiters in line order, and the rest is added to the count. Refused in the order −6, −5.
+#[tactic(auto, unfolding(rules::specs::Semaphores::do_post), using(waiting::proofs::Doing::does_nothing))]
 pub fn post(t: &mut [u8], k: u8, n: u32) -> Answer
     requires { Serves t.old }
     ensures { Does t.old t.new result (λ s. do_post s k n) }
@@ -138,6 +143,7 @@ pub fn post(t: &mut [u8], k: u8, n: u32) -> Answer
 }
 
 // A Post that is refused by −5 under lock too.
+#[tactic(auto, unfolding(rules::specs::Semaphores::do_post_from_interrupt), using(waiting::proofs::Doing::does_nothing, waiting::proofs::Doing::does_as))]
 pub fn post_from_interrupt(t: &mut [u8], k: u8, n: u32) -> Answer
     requires { Serves t.old }
     ensures { Does t.old t.new result (λ s. do_post_from_interrupt s k n) }

@@ -1,2 +1,0 @@
--- Laws of semaphores.
-pub mod Numbers
