@@ -1,8 +1,7 @@
 -- The first of the highest ready line that has one: a line without a first is passed over, and no line above the word's highest bit
 -- has a member. Assumes nothing.
-use Rattle.std.specs.Prelude.{Some, None}
-use mathlib.Core.Path.{◌≡◌, refl, sym, ap, ◌∙◌}
-use mathlib.Core.Bool.{false}
+use mathlib.Core.Path.{◌≡◌, refl, ap, ◌∙◌}
+use mathlib.Core.Bool.{true, false}
 use mathlib.Core.List.{List}
 use Prim.Native.Nat.{ℕ, zero, suc, ◌+◌, ◌-◌, ◌^◌, ◌≤◌, ◌<◌}
 use native.Mathlib.Nat.{le_refl, add-zero, add-suc, one-le-pow}
@@ -11,26 +10,19 @@ use borrow.Author.Tests.{lt-ltb, le-ltb, ltb-false}
 use lib.ListN.{length}
 use Rattle.rules.specs.Board.{top_priority}
 use Rattle.rules.specs.State.{free, at}
-use Rattle.rules.specs.Lines.{ready, in_line, line_length, first, is_first, top_below, top, has_member, bits_below, ready_word}
+use Rattle.rules.specs.Lines.{ready, in_line, line_length, is_first, top_below, top, has_member, bits_below, ready_word}
 use Rattle.rules.specs.declared.Thread.{Thread}
 use Rattle.laws.proofs.Split.{is, isnt, test, and_true}
 use Rattle.laws.proofs.Members.{count_pos}
-use Rattle.laws.proofs.Turns.{find_none}
+use Rattle.laws.proofs.Turns.{find_at, find_none}
 use Rattle.laws.proofs.Word.{power_low, bits_least}
-use Rattle.lines.specs.First.{first_if_any}
-use Rattle.lines.proofs.First.{first_some, first_none}
 
 module _ (ts : List Thread) where
-  -- line q has a first, or the next is looked at
-  pub top_found : {p : ℕ} (q : ℕ) {i : ℕ} → p ≡ suc q → Some i ≡ first_if_any (ready q) ts → top_below p ts ≡ i
+  pub top_found : (p i : ℕ) → i < length ts → ((k : ℕ) → k < i → is_first (ready p) (at ts k) ≡ false) → is_first (ready p) (at ts i) ≡ true → top_below (suc p) ts ≡ i
   unfolding top_below
-  top_found q d e = let own = first_some (ready q) ts e in rw (d, lt-ltb (first (ready q) ts) (length ts) (omega (arith, own.0, own.1))) (sym own.0)
+  top_found p i h n t = rw (find_at (is_first (ready p)) free ts i h n t, lt-ltb i (length ts) h)
 
-  pub top_passed : {p : ℕ} (q : ℕ) → p ≡ suc q → None ≡ first_if_any (ready q) ts → top_below p ts ≡ top_below q ts
-  unfolding top_below
-  top_passed q d e = rw (d, le-ltb (first (ready q) ts) (length ts) (first_none (ready q) ts e)) refl
-
-  top_lower : (p : ℕ) → ((k : ℕ) → k < length ts → is_first (ready p) (at ts k) ≡ false) → top_below (suc p) ts ≡ top_below p ts
+  pub top_lower : (p : ℕ) → ((k : ℕ) → k < length ts → is_first (ready p) (at ts k) ≡ false) → top_below (suc p) ts ≡ top_below p ts
   unfolding top_below
   top_lower p n = rw (find_none (is_first (ready p)) free ts n, le-ltb (length ts) (length ts) (le_refl (length ts)))
 

@@ -8,7 +8,7 @@
 ghost use Rattle.std.specs.Prelude.{◌≡◌, ℕ, ◌+◌, ◌^◌, ◌≤◌, ◌<◌};
 ghost use Rattle.rules.specs.Board.{top_priority};
 ghost use Rattle.rules.specs.State.{State, at};
-ghost use Rattle.rules.specs.Lines.{leave, move, top, settle};
+ghost use Rattle.rules.specs.Lines.{ready, is_first, leave, move, top, settle};
 ghost use Rattle.rules.specs.declared.Thread.{Thread};
 ghost use Rattle.layout.specs.Boards.{HasThread};
 ghost use Rattle.layout.specs.Held.{said, Holds, Whole, Becomes, Shows, Laid, on_threads};
@@ -83,8 +83,17 @@ pub fn highest(word: u32) -> u8
     TOP_PRIORITY - u32::leading_zeros(word) as u8
 }
 
+// Is thread `j` the first of the ready line of priority `p`?
+fn leads_ready(t: &[u8], j: usize, p: u8) -> bool
+    requires { HasThread t.now j × Whole t.now }
+    ensures { (s : State) → said t.now ≡ s → result ≡ is_first (ready p) (at s.threads j) }
+{
+    marks::has_mark(t, j, marks::first_mark(Line::Ready { priority: p }))
+}
+
 // The first of the highest ready line that is not empty. The word names that line, and in a sound table somebody is first there; the rule speaks
-// of every table, so where nobody is, the line below is looked at.
+// of every table, so where nobody is, the line below is looked at. Loops over priorities and threads, left by a labelled break that gives the
+// thread's number: document 01 wants that form here.
 pub fn top_thread(t: &[u8]) -> usize
     requires { Whole t.now }
     ensures { HasThread t.now result × ((s : State) → said t.now ≡ s → result ≡ top s.threads) }
@@ -93,12 +102,17 @@ pub fn top_thread(t: &[u8]) -> usize
     if word == 0 {
         return 0;
     }
-    for p in (0..highest(word) + 1).rev() {
-        if let Some(i) = lines::first_of(t, Line::Ready { priority: p }) {
-            return i;
+    let threads = boards::threads(t);
+    'found: {
+        for p in (0..highest(word) + 1).rev() {
+            for j in 0..threads {
+                if leads_ready(t, j, p) {
+                    break 'found j;
+                }
+            }
         }
+        0
     }
-    0
 }
 
 // With lock 0 the first of the highest ready line runs.
