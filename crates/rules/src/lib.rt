@@ -24,7 +24,7 @@ pub enum Wait {
 }
 
 // How a thread's last wait ended.
-#[derive(Clone, Copy)]
+#[derive(Clone, Copy, PartialEq, Eq)]
 pub enum Outcome {
     Done,
     NoneYet,
