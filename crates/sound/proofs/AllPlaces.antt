@@ -16,7 +16,7 @@ use Rattle.layout.specs.Bytes.{word_from}
 use Rattle.layout.specs.Boards.{HasThread, HasThreads}
 use Rattle.layout.specs.Held.{board, Long, said}
 use Rattle.layout.proofs.Boards.{counted, sized}
-use Rattle.places.specs.Rings.{half, placed}
+use Rattle.places.specs.Rings.{Entries, half, placed}
 use Rattle.sound.specs.Tested.{Noted, Passes, Threads}
 use Rattle.sound.proofs.Noting.{by_rule_lem}
 
@@ -24,21 +24,21 @@ use Rattle.sound.proofs.Noting.{by_rule_lem}
 pub halves : {t : List ℕ} → Long t → {n : ℕ} → HasThreads t n → half n + half n ≡ n
 halves {t} l {n} h = let twice : n ≡ 2 * (board t).sems = omega (arith, (counted t l).sems) in omega arith
 
-module _ (t : List ℕ) (l : Long t) (s : State) (e : said t ≡ s) {n : ℕ} (h : HasThreads t n) {numbers places : List ℕ} (all : Noted numbers places s.threads n) where
+module _ (t : List ℕ) (l : Long t) (s : State) (e : said t ≡ s) {n : ℕ} (h : HasThreads t n) {noted : Entries} (all : Noted noted s.threads n) where
   many : length s.threads ≡ n
   many = omega (arith, (sized l e).threads)
 
-  pub all_passed : all_below n (placed n numbers places) ≡ true → ((i : ℕ) → HasThread t i → Passes t s i) → word_at t (word_from (board t)) ≡ ready_word s.threads → Threads t s
+  pub all_passed : all_below n (placed n noted.lines noted.places) ≡ true → ((i : ℕ) → HasThread t i → Passes t s i) → word_at t (word_from (board t)) ≡ ready_word s.threads → Threads t s
   unfolding thread_ok
   all_passed ok passes right = record {
     canon = λ i q. (passes i q).canon;
-    each = λ i q. and_both _ _ (sym (by_rule_lem s.threads many all i (omega arith)) ∙ below_at n (placed n numbers places) ok i (omega arith)) (passes i q).own;
+    each = λ i q. and_both _ _ (sym (by_rule_lem s.threads many all i (omega arith)) ∙ below_at n (placed n noted.lines noted.places) ok i (omega arith)) (passes i q).own;
     word = right;
   }
 
-  pub all_placed : Threads t s → all_below n (placed n numbers places) ≡ true
+  pub all_placed : Threads t s → all_below n (placed n noted.lines noted.places) ≡ true
   unfolding thread_ok
-  all_placed w = below_of n (placed n numbers places) (λ i q. by_rule_lem s.threads many all i q ∙ (and_true (place_ok s.threads (at s.threads i)) _ (w.each i (omega arith))).0)
+  all_placed w = below_of n (placed n noted.lines noted.places) (λ i q. by_rule_lem s.threads many all i q ∙ (and_true (place_ok s.threads (at s.threads i)) _ (w.each i (omega arith))).0)
 
 pub each_passes : (t : List ℕ) (s : State) → Threads t s → (i : ℕ) → HasThread t i → Passes t s i
 unfolding thread_ok

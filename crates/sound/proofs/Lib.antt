@@ -1,5 +1,6 @@
 -- Laws that the test of a table cites.
 mod Order
+mod Range
 mod Noting
 mod Threads
 mod AllPlaces

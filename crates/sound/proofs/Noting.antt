@@ -8,7 +8,7 @@ use native.Mathlib.Omega.{arith}
 use native.Mathlib.Decide.{ℕ_discrete}
 use borrow.Author.Tests.{eq-eqb, ne_eqb}
 use lib.Dec.{eqb}
-use lib.ListN.{length, get_or, set, replicate}
+use lib.ListN.{length, get_or, set, replicate, length-set, length-replicate}
 use lib.Seq.{get_or-set_same, get_or-set_other}
 use Rattle.rules.specs.Basic.{count}
 use Rattle.rules.specs.State.{free, at}
@@ -21,47 +21,54 @@ use Rattle.layout.specs.Held.{Long}
 use Rattle.layout.proofs.Boards.{counted}
 use Rattle.marks.specs.Numbers.{line_number}
 use Rattle.marks.proofs.Numbered.{same_none, same_number}
-use Rattle.places.specs.Rings.{count_below, entry_in, entry_at, placed, ring_length}
+use Rattle.places.specs.Rings.{Entries, count_below, entry_in, entry_at, placed, ring_length}
 use Rattle.places.proofs.Below.{count_same, count_list}
 use Rattle.sound.specs.Tested.{Noted}
 
 -- ONE MORE
 
 -- a ring has room for every thread of a table
-pub room : {t : List ℕ} → Long t → (i : ℕ) → HasThread t i → {n : ℕ} → n ≡ ring_length → i < n
-room {t} l i h e = let c = counted t l in omega (arith, c.threads, c.most)
+pub room : {t : List ℕ} → Long t → (i : ℕ) → HasThread t i → i < ring_length
+room {t} l i h = let c = counted t l in omega (arith, c.threads, c.most)
 
 zeros : (m n : ℕ) → get_or {A = ℕ} (replicate m 0) n 0 ≡ 0
 zeros zero n = refl
 zeros (suc m) zero = refl
 zeros (suc m) (suc n) = zeros m n
 
-pub nothing_yet : (a b : ℕ) (ts : List Thread) → Noted (replicate a 0) (replicate b 0) ts 0
-nothing_yet a b ts = record { numbered = λ k h. absurd (omega arith); placed = λ k h. absurd (omega arith); rest = λ k h. (zeros a k, zeros b k) }
+pub nothing_yet : {noted : Entries} (ts : List Thread) → noted.lines ≡ replicate ring_length 0 → noted.places ≡ replicate ring_length 0 → Noted noted ts 0
+nothing_yet ts l p = record {
+  numbered = λ k h. absurd (omega arith);
+  placed = λ k h. absurd (omega arith);
+  room = rw (l, p) (length-replicate {A = ℕ} ring_length 0, length-replicate {A = ℕ} ring_length 0);
+  rest = λ k h. rw (l, p) (zeros ring_length k, zeros ring_length k);
+}
 
-module _ {numbers places : List ℕ} {ts : List Thread} {i : ℕ} (old : Noted numbers places ts i) where
+module _ {noted : Entries} {ts : List Thread} {i : ℕ} (old : Noted noted ts i) where
   -- of a thread in no line nothing has to be noted
-  pub notes_none : line (at ts i) ≡ nowhere → (at ts i).place ≡ 0 → Noted numbers places ts (i + 1)
+  pub notes_none : line (at ts i) ≡ nowhere → (at ts i).place ≡ 0 → Noted noted ts (i + 1)
   notes_none out none = record {
     numbered = λ k h. elim (ℕ_discrete k i) [ yes e ↦ rw (e, out) (old.rest i (omega arith)).0 | no e ↦ old.numbered k (omega arith) ];
     placed = λ k h. elim (ℕ_discrete k i) [ yes e ↦ rw (e, none) (old.rest i (omega arith)).1 | no e ↦ old.placed k (omega arith) ];
+    room = old.room;
     rest = λ k h. old.rest k (omega arith);
   }
 
-  pub notes : i < length numbers → i < length places → {number place : ℕ} → number ≡ line_number (line (at ts i)) → place ≡ (at ts i).place
-      → Noted (set numbers i number) (set places i place) ts (i + 1)
-  notes h l {number} {place} n p = record {
-    numbered = λ k q. elim (ℕ_discrete k i) [
-      | yes e ↦ rw e (get_or-set_same numbers i number 0 h ∙ n)
-      | no e ↦ get_or-set_other numbers i k number 0 e ∙ old.numbered k (omega arith)
-    ];
-    placed = λ k q. elim (ℕ_discrete k i) [
-      | yes e ↦ rw e (get_or-set_same places i place 0 l ∙ p)
-      | no e ↦ get_or-set_other places i k place 0 e ∙ old.placed k (omega arith)
-    ];
-    rest = λ k q. (
-      get_or-set_other numbers i k number 0 (omega arith) ∙ (old.rest k (omega arith)).0,
-      get_or-set_other places i k place 0 (omega arith) ∙ (old.rest k (omega arith)).1,
+  pub notes : i < ring_length → {new : Entries} {number place : ℕ} → new.lines ≡ set noted.lines i number → new.places ≡ set noted.places i place
+      → number ≡ line_number (line (at ts i)) → place ≡ (at ts i).place → Noted new ts (i + 1)
+  notes h {new} {number} {place} lines places n p = record {
+    numbered = λ k q. rw lines (elim (ℕ_discrete k i) [
+      | yes e ↦ rw e (get_or-set_same noted.lines i number 0 (omega (arith, old.room.0)) ∙ n)
+      | no e ↦ get_or-set_other noted.lines i k number 0 e ∙ old.numbered k (omega arith)
+    ]);
+    placed = λ k q. rw places (elim (ℕ_discrete k i) [
+      | yes e ↦ rw e (get_or-set_same noted.places i place 0 (omega (arith, old.room.1)) ∙ p)
+      | no e ↦ get_or-set_other noted.places i k place 0 e ∙ old.placed k (omega arith)
+    ]);
+    room = rw (lines, places) (length-set noted.lines i number ∙ old.room.0, length-set noted.places i place ∙ old.room.1);
+    rest = λ k q. rw (lines, places) (
+      get_or-set_other noted.lines i k number 0 (omega arith) ∙ (old.rest k (omega arith)).0,
+      get_or-set_other noted.places i k place 0 (omega arith) ∙ (old.rest k (omega arith)).1,
     );
   }
 
@@ -80,22 +87,22 @@ one_number a b h = elim (ℕ_discrete (line_number a) 0) [
   | no n ↦ sym (same_number a b n)
 ]
 
-module _ {numbers places : List ℕ} (ts : List Thread) {n : ℕ} (long : length ts ≡ n) (all : Noted numbers places ts n) where
+module _ {noted : Entries} (ts : List Thread) {n : ℕ} (long : length ts ≡ n) (all : Noted noted ts n) where
   -- a count over what is noted is one over the threads
   count_noted : (f : ℕ → Bool) (g : Thread → Bool) → ((k : ℕ) → k < n → f k ≡ g (at ts k)) → count_below n f ≡ count g ts
   count_noted f g h = count_same n f (λ k. g (at ts k)) h ∙ ap (λ n. count_below n (λ k. g (at ts k))) (sym long) ∙ count_list g free ts
 
   module _ (l : Line) (somewhere : is_nowhere l ≡ false) where
-    in_line_lem : (k : ℕ) → k < n → entry_in numbers (line_number l) k ≡ in_line l (at ts k)
+    in_line_lem : (k : ℕ) → k < n → entry_in noted.lines (line_number l) k ≡ in_line l (at ts k)
     in_line_lem k h = ap (λ x. eqb x (line_number l)) (all.numbered k h) ∙ one_number (line (at ts k)) l somewhere
 
-    line_long : count_below n (entry_in numbers (line_number l)) ≡ line_length l ts
-    line_long = count_noted (entry_in numbers (line_number l)) (in_line l) in_line_lem
+    line_long : count_below n (entry_in noted.lines (line_number l)) ≡ line_length l ts
+    line_long = count_noted (entry_in noted.lines (line_number l)) (in_line l) in_line_lem
 
-    many_there : (place : ℕ) → count_below n (entry_at numbers places (line_number l) place) ≡ count (stands_at l place) ts
-    many_there place = count_noted (entry_at numbers places (line_number l) place) (stands_at l place) (λ k h. rw (in_line_lem k h, all.placed k h))
+    many_there : (place : ℕ) → count_below n (entry_at noted.lines noted.places (line_number l) place) ≡ count (stands_at l place) ts
+    many_there place = count_noted (entry_at noted.lines noted.places (line_number l) place) (stands_at l place) (λ k h. rw (in_line_lem k h, all.placed k h))
 
-  pub by_rule_lem : (j : ℕ) → j < n → placed n numbers places j ≡ place_ok ts (at ts j)
+  pub by_rule_lem : (j : ℕ) → j < n → placed n noted.lines noted.places j ≡ place_ok ts (at ts j)
   unfolding placed place_ok
   by_rule_lem j h = rw (all.numbered j h, all.placed j h, none_or_not (line (at ts j))) (elim (test (is_nowhere (line (at ts j)))) [
     | is e ↦ rw e

@@ -29,6 +29,7 @@ use Rattle.layout.proofs.Boards.{counted, has_thread, said_on, sized, thread_tol
 use Rattle.canon.specs.Zero.{record_zero}
 use Rattle.canon.proofs.Zeros.{record_zeros, zeros_record}
 use Rattle.marks.specs.Numbers.{line_number}
+use Rattle.places.specs.Rings.{Entries}
 use Rattle.sound.specs.Tested.{Decides, InTable, Noted, Passes}
 use Rattle.sound.proofs.Noting.{notes_none}
 
@@ -110,7 +111,7 @@ module _ (t : List ℕ) (s : State) (i : ℕ) (long : Long t) (e : said t ≡ s)
   zero_free q = sym (thread_told long e i inside) ∙ zeros_free t (i * record_length) (record_zeros t (i * record_length) (sym zero ∙ q))
 
   -- a free thread stands nowhere
-  pub free_noted : {numbers places : List ℕ} → Noted numbers places s.threads i → r ≡ true → Noted numbers places s.threads (i + 1)
+  pub free_noted : {noted : Entries} → Noted noted s.threads i → r ≡ true → Noted noted s.threads (i + 1)
   free_noted old q = let f = zero_free q in notes_none old (ap line f) (ap (λ th. th.place) f)
 
   pub free_ends : {th : Thread} → th ≡ at s.threads i → th.used ≡ false → Decides r t (Passes t s i)

@@ -1,10 +1,10 @@
 -- What the test of a table finds out, in the order in which it asks.
-use Rattle.std.specs.Prelude.{if◌then◌else◌, Bool, true, false, not, ◌&&◌, ◌||◌, ◌≡◌, List, ℕ, ◌+◌, ◌*◌, ◌≤◌, ◌<◌, eqb, leb, length, get_or}
-use Rattle.rules.specs.Board.{record_length, top_priority, most_ticks}
+use Rattle.std.specs.Prelude.{if◌then◌else◌, Bool, true, false, not, ◌&&◌, ◌||◌, ◌≡◌, List, Option, Some, None, ℕ, ◌+◌, ◌*◌, ◌≤◌, ◌<◌, eqb, length, get_or}
+use Rattle.rules.specs.Board.{record_length}
 use Rattle.rules.specs.State.{State, at, sem_at, waiting, sending}
 use Rattle.rules.specs.Lines.{line, ready_word}
 use Rattle.rules.specs.Table.{word_at}
-use Rattle.rules.specs.Test.{is_done, is_none_yet, free_ok, counter_ok, object_ok, used_ok, thread_ok, sem_ok}
+use Rattle.rules.specs.Test.{is_done, is_none_yet, free_ok, used_ok, thread_ok, sem_ok}
 use Rattle.rules.specs.declared.Thread.{Thread}
 use Rattle.rules.specs.declared.Wait.{Wait}
 use Rattle.rules.specs.declared.Wait.TheVariants.{Nothing, Delay, Receive, Send, Semaphore}
@@ -14,8 +14,7 @@ use Rattle.layout.specs.Boards.{HasThread}
 use Rattle.layout.specs.Canon.{thread_canon, sem_canon}
 use Rattle.layout.specs.Held.{board, Whole}
 use Rattle.marks.specs.Numbers.{line_number}
-use Rattle.sound.specs.declared.Verdict.{Verdict}
-use Rattle.sound.specs.declared.Verdict.TheVariants.{Bad, Good}
+use Rattle.places.specs.Rings.{Entries, ring_length}
 
 -- an answer that says whether something holds, of a table that holds the state that it says
 pub record Decides (r : Bool) (t : List ℕ) (P : Type 0) : Type 0 where
@@ -23,25 +22,19 @@ pub record Decides (r : Bool) (t : List ℕ) (P : Type 0) : Type 0 where
   pub passes : Whole t → P → r ≡ true
 
 -- what is found of a thread
-abbrev pub is_good : Verdict → Bool
-is_good Bad = false
-is_good (Good bit) = true
+abbrev pub is_good : Option ℕ → Bool
+is_good None = false
+is_good (Some bit) = true
 
-abbrev pub bit_in : Verdict → ℕ
-bit_in Bad = 0
-bit_in (Good bit) = bit
+abbrev pub bit_in : Option ℕ → ℕ
+bit_in None = 0
+bit_in (Some bit) = bit
 
 -- A THREAD IN USE
 
 -- the outcome of a wait, and the parcel
 unfoldable pub outcome_ok : Wait → Outcome → ℕ → Bool
 outcome_ok w o parcel = (not (waiting w) || is_none_yet o) && (sending w || is_done o || eqb parcel 0)
-
--- a record that is in use, in the order in which it is tested
-unfoldable pub used_test : State → ℕ → Thread → Bool
-used_test s i t =
-    leb t.priority top_priority && (leb 1 t.turn && leb t.turn most_ticks) && (t.full || eqb t.value 0)
-    && counter_ok t.wait t.suspended t.place t.turn && object_ok s i t.wait t.full && outcome_ok t.wait t.outcome t.parcel
 
 -- the wait object is one of the state's
 abbrev pub InTable : State → Wait → Type 0
@@ -54,10 +47,11 @@ InTable s (Semaphore on n) = on < length s.sems
 -- PLACES
 
 -- of the threads before i the number of the line and the place are noted, and nothing of the rest
-pub record Noted (numbers places : List ℕ) (ts : List Thread) (i : ℕ) : Type 0 where
-  pub numbered : (k : ℕ) → k < i → get_or numbers k 0 ≡ line_number (line (at ts k))
-  pub placed : (k : ℕ) → k < i → get_or places k 0 ≡ (at ts k).place
-  pub rest : (k : ℕ) → i ≤ k → (get_or numbers k 0 ≡ 0) × (get_or places k 0 ≡ 0)
+pub record Noted (noted : Entries) (ts : List Thread) (i : ℕ) : Type 0 where
+  pub numbered : (k : ℕ) → k < i → get_or noted.lines k 0 ≡ line_number (line (at ts k))
+  pub placed : (k : ℕ) → k < i → get_or noted.places k 0 ≡ (at ts k).place
+  pub room : (length noted.lines ≡ ring_length) × (length noted.places ≡ ring_length)
+  pub rest : (k : ℕ) → i ≤ k → (get_or noted.lines k 0 ≡ 0) × (get_or noted.places k 0 ≡ 0)
 
 -- RECORDS
 

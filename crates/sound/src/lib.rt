@@ -2,7 +2,7 @@
 // is held against all others, and their bits together against the ready word.
 #![tactic(auto)]
 
-ghost use Rattle.std.specs.Prelude.{◌≡◌, true, ◌↔◌, ◌+◌, ◌^◌, ◌≤◌, ◌<◌, length};
+ghost use Rattle.std.specs.Prelude.{◌≡◌, true, ◌↔◌, ◌+◌, ◌^◌, ◌≤◌, ◌<◌};
 ghost use Rattle.rules.specs.Basic.{all_below};
 ghost use Rattle.rules.specs.State.{State, at};
 ghost use Rattle.rules.specs.Lines.{line};
@@ -10,7 +10,6 @@ ghost use Rattle.rules.specs.Test.{init_ok, kernel_ok, sound_table};
 ghost use Rattle.layout.specs.Boards.{HasThread, HasSem};
 ghost use Rattle.layout.specs.Held.{board, Long, said};
 ghost use Rattle.marks.specs.Numbers.{line_number};
-ghost use Rattle.places.specs.Rings.{ring_length};
 ghost use Rattle.ready.specs.Word.{ready_bit};
 ghost use Rattle.sound.specs.Tested.{Decides, is_good, bit_in, Noted, Passes, Threads, sem_test};
 
@@ -28,37 +27,27 @@ fn number_of(th: Thread) -> u8
     marks::line_of(th) as u8
 }
 
-// What is found of a thread: it is not sound, or it is, and its bit in the ready word.
-#[derive(Clone, Copy)]
-enum Verdict {
-    Bad,
-    Good { bit: u32 },
-}
-
-// Is thread `i` sound, whoever else stands in its line? If it is, its line and its place are noted.
-fn thread_ok(t: &[u8], i: usize, numbers: &mut [u8], places: &mut [u8]) -> Verdict
-    requires { HasThread t.now i × Long t.now × (length numbers.old ≡ ring_length) × (length places.old ≡ ring_length) }
-    ensures { (s : State) → said t.now ≡ s → Noted numbers.old places.old s.threads i
+// Is thread `i` sound, whoever else stands in its line? If it is, its line and its place are noted, and its bit in the ready word is given
+// back.
+fn thread_ok(t: &[u8], i: usize, noted: &mut places::Noted) -> Option<u32>
+    requires { HasThread t.now i × Long t.now }
+    ensures { (s : State) → said t.now ≡ s → Noted noted.old s.threads i
         → Decides (is_good result) t.now (Passes t.now s i)
-        × (is_good result ≡ true → Noted numbers.new places.new s.threads (i + 1) × (bit_in result ≡ ready_bit (at s.threads i))) }
+        × (is_good result ≡ true → Noted noted.new s.threads (i + 1) × (bit_in result ≡ ready_bit (at s.threads i))) }
 {
     let th = records::load_thread(t, i);
     if !th.used {
-        if !canon::thread_zero(t, i) {
-            return Verdict::Bad;
-        }
-        return Verdict::Good { bit: 0 };
+        return if canon::thread_zero(t, i) {
+            Some(0)
+        } else {
+            None
+        };
     }
-    if !canon::thread_canon(t, i) {
-        return Verdict::Bad;
+    if !canon::thread_canon(t, i) || !used::used_ok(t, i, th) {
+        return None;
     }
-    if !used::used_ok(t, i, th) {
-        return Verdict::Bad;
-    }
-    numbers[i] = number_of(th);
-    places[i] = th.place;
-    let bit = ready::ready_bit(th);
-    Verdict::Good { bit }
+    noted.note(i, number_of(th), th.place);
+    Some(ready::ready_bit(th))
 }
 
 // ALL THREADS
@@ -68,70 +57,50 @@ fn threads_ok(t: &[u8]) -> bool
     requires { Long t.now }
     ensures { (s : State) → said t.now ≡ s → Decides result t.now (Threads t.now s) }
 {
-    let mut numbers = [0u8; places::RING];
-    let mut places = [0u8; places::RING];
+    let mut noted = places::Noted::new();
     let mut word: u32 = 0;
     let n = boards::threads(&t[..]);
     for i in 0..n {
-        let Verdict::Good { bit } = thread_ok(&t[..], i, &mut numbers, &mut places) else {
+        let Some(bit) = thread_ok(&t[..], i, &mut noted) else {
             return false;
         };
         word |= bit;
     }
-    if word != records::word(&t[..]) {
-        return false;
-    }
-    places::all_placed(&mut numbers, &mut places, n)
+    word == records::word(&t[..]) && noted.all_placed(n)
 }
 
 // SEMAPHORES, AND WHO RUNS
 
+#[tactic(auto, unfolding(crate::specs::Tested::sem_test, rules::specs::Test::sem_ok))]
 fn sem_ok(t: &[u8], k: usize) -> bool
     requires { HasSem t.now k × Long t.now }
     ensures { (s : State) → said t.now ≡ s → result ≡ sem_test t.now s k }
 {
-    if !canon::sem_canon(t, k) {
-        return false;
-    }
     let e = records::load_sem(t, k);
-    if e.count > MOST_COUNT {
-        return false;
-    }
-    e.used || e.count == 0
+    canon::sem_canon(t, k) && e.count <= MOST_COUNT && (e.used || e.count == 0)
 }
 
 fn sems_ok(t: &[u8]) -> bool
     requires { Long t.now }
     ensures { (s : State) → said t.now ≡ s → result ≡ all_below (board t.now).sems (sem_test t.now s) }
 {
-    let n = boards::semaphores(t);
-    for k in 0..n {
-        if !sem_ok(t, k) {
-            return false;
-        }
-    }
-    true
+    (0..boards::semaphores(t)).all(|k| sem_ok(t, k))
 }
 
+#[tactic(auto, unfolding(rules::specs::Test::init_ok))]
 fn init_ok(t: &[u8]) -> bool
     requires { Long t.now }
     ensures { (s : State) → said t.now ≡ s → result ≡ init_ok (at s.threads 0) }
 {
     let th = records::load_thread(t, 0);
-    if !lines::is_ready(th) {
-        return false;
-    }
-    th.priority == 0
+    lines::is_ready(th) && th.priority == 0
 }
 
 // Is that priority the highest of all whose bit is set in the word?
 fn is_top(word: u32, priority: u8) -> bool
     ensures { (result ≡ true) ↔ ((2 ^ priority ≤ word) × (word < 2 ^ (priority + 1))) }
 {
-    if word == 0 {
-        return false;
-    }
-    ready::highest(word) == priority
+    word != 0 && ready::highest(word) == priority
 }
 
 // Are all threads sound, the ready word, and the thread that runs?
@@ -147,13 +116,7 @@ fn runs_ok(t: &[u8]) -> bool
     if !lines::is_ready(th) {
         return false;
     }
-    if records::lock(t) != 0 {
-        return threads_ok(t);
-    }
-    if th.place != 1 {
-        return false;
-    }
-    if !is_top(records::word(t), th.priority) {
+    if records::lock(t) == 0 && (th.place != 1 || !is_top(records::word(t), th.priority)) {
         return false;
     }
     threads_ok(t)
@@ -163,17 +126,5 @@ fn runs_ok(t: &[u8]) -> bool
 pub fn sound(t: &[u8]) -> bool
     ensures { result ≡ sound_table (board t.now) t.now }
 {
-    if !boards::is_long(t) {
-        return false;
-    }
-    if !canon::kernel_canon(t) {
-        return false;
-    }
-    if !sems_ok(t) {
-        return false;
-    }
-    if !init_ok(t) {
-        return false;
-    }
-    runs_ok(t)
+    boards::is_long(t) && canon::kernel_canon(t) && sems_ok(t) && init_ok(t) && runs_ok(t)
 }

@@ -1,8 +1,8 @@
 // Is a thread's record sound that is in use? The places of the lines apart, which no record alone says.
-ghost use Rattle.std.specs.Prelude.{if◌then◌else◌, ◌≡◌, not, ◌&&◌, ◌||◌, eqb, leb};
-ghost use Rattle.rules.specs.Board.{top_priority, most_ticks};
+ghost use Rattle.std.specs.Prelude.{if◌then◌else◌, ◌≡◌, not, ◌&&◌, eqb, leb};
+ghost use Rattle.rules.specs.Board.{most_ticks};
 ghost use Rattle.rules.specs.State.{State, at, sem_at};
-ghost use Rattle.rules.specs.Test.{is_done, is_none_yet, counter_ok, object_ok, used_ok};
+ghost use Rattle.rules.specs.Test.{counter_ok, object_ok, used_ok};
 ghost use Rattle.layout.specs.Held.{Long, said};
 ghost use Rattle.sound.specs.Tested.{outcome_ok};
 
@@ -13,16 +13,7 @@ use rules::{MOST_TICKS, Outcome, TOP_PRIORITY, Thread, Wait};
 fn ticks_ok(n: u32) -> bool
     ensures { result ≡ (leb 1 n && leb n most_ticks) }
 {
-    1 <= n && n <= MOST_TICKS
-}
-
-fn settings_ok(priority: u8, turn: u32) -> bool
-    ensures { result ≡ (leb priority top_priority && (leb 1 turn && leb turn most_ticks)) }
-{
-    if priority > TOP_PRIORITY {
-        return false;
-    }
-    ticks_ok(turn)
+    (1..=MOST_TICKS).contains(&n)
 }
 
 // What is left of a turn: at place 1 of a ready line, 1 to the turn; at a later place, the turn itself.
@@ -30,7 +21,7 @@ fn turn_ok(counter: u32, place: u8, turn: u32) -> bool
     ensures { result ≡ (if eqb place 1 then leb 1 counter && leb counter turn else eqb counter turn) }
 {
     if place == 1 {
-        1 <= counter && counter <= turn
+        (1..=turn).contains(&counter)
     } else {
         counter == turn
     }
@@ -48,48 +39,20 @@ fn counter_ok(w: Wait, suspended: bool, place: u8, turn: u32) -> bool
             }
         }
         Wait::Delay { counter } => ticks_ok(counter),
-        Wait::Receive { counter } => counter <= MOST_TICKS,
-        Wait::Send { to: _, counter } => counter <= MOST_TICKS,
-        Wait::Semaphore { on: _, counter } => counter <= MOST_TICKS,
+        Wait::Receive { counter } | Wait::Send { counter, .. } | Wait::Semaphore { counter, .. } =>
+            counter <= MOST_TICKS,
     }
 }
 
-fn mail_ok(full: bool, value: u32) -> bool
-    ensures { result ≡ (full || eqb value 0) }
-{
-    full || value == 0
-}
-
-fn is_done(o: Outcome) -> bool
-    ensures { result ≡ is_done o }
-{
-    match o {
-        Outcome::Done => true,
-        Outcome::NoneYet => false,
-        Outcome::Failed => false,
-    }
-}
-
-fn is_none_yet(o: Outcome) -> bool
-    ensures { result ≡ is_none_yet o }
-{
-    match o {
-        Outcome::Done => false,
-        Outcome::NoneYet => true,
-        Outcome::Failed => false,
-    }
-}
-
+#[tactic(auto, using(crate::proofs::Order::idle_sends, crate::proofs::Order::none_done), unfolding(crate::specs::Tested::outcome_ok))]
 fn outcome_ok(w: Wait, o: Outcome, parcel: u32) -> bool
     ensures { result ≡ outcome_ok w o parcel }
 {
-    if !records::is_waiting(w) {
-        return is_done(o) || parcel == 0;
+    if records::is_waiting(w) {
+        o == Outcome::NoneYet && (records::is_sending(w) || parcel == 0)
+    } else {
+        o == Outcome::Done || parcel == 0
     }
-    if !is_none_yet(o) {
-        return false;
-    }
-    records::is_sending(w) || parcel == 0
 }
 
 // WITH WHAT IT WAITS FOR
@@ -99,10 +62,7 @@ fn send_ok(t: &[u8], i: usize, to: usize) -> bool
     requires { Long t.now }
     ensures { (s : State) → said t.now ≡ s → result ≡ (not (eqb i to) && (at s.threads to).used && (at s.threads to).full) }
 {
-    if i == to {
-        return false;
-    }
-    if to >= boards::threads(t) {
+    if i == to || to >= boards::threads(t) {
         return false;
     }
     let th = records::load_thread(t, to);
@@ -126,32 +86,23 @@ fn object_ok(t: &[u8], i: usize, w: Wait, full: bool) -> bool
     ensures { (s : State) → said t.now ≡ s → result ≡ object_ok s i w full }
 {
     match w {
-        Wait::Nothing { counter: _ } => true,
-        Wait::Delay { counter: _ } => true,
-        Wait::Receive { counter: _ } => !full,
-        Wait::Send { to, counter: _ } => send_ok(t, i, to as usize),
-        Wait::Semaphore { on, counter: _ } => pend_ok(t, on as usize),
+        Wait::Nothing { .. } | Wait::Delay { .. } => true,
+        Wait::Receive { .. } => !full,
+        Wait::Send { to, .. } => send_ok(t, i, to as usize),
+        Wait::Semaphore { on, .. } => pend_ok(t, on as usize),
     }
 }
 
 // The whole record.
+#[tactic(auto, unfolding(rules::specs::Test::used_ok, crate::specs::Tested::outcome_ok))]
 pub fn used_ok(t: &[u8], i: usize, th: Thread) -> bool
     requires { Long t.now }
     ensures { (s : State) → said t.now ≡ s → result ≡ used_ok s i th }
 {
-    let w = th.wait;
-    let o = th.outcome;
-    if !settings_ok(th.priority, th.turn) {
-        return false;
-    }
-    if !mail_ok(th.full, th.value) {
-        return false;
-    }
-    if !counter_ok(w, th.suspended, th.place, th.turn) {
-        return false;
-    }
-    if !object_ok(t, i, w, th.full) {
-        return false;
-    }
-    outcome_ok(w, o, th.parcel)
+    th.priority <= TOP_PRIORITY
+        && ticks_ok(th.turn)
+        && (th.full || th.value == 0)
+        && counter_ok(th.wait, th.suspended, th.place, th.turn)
+        && object_ok(t, i, th.wait, th.full)
+        && outcome_ok(th.wait, th.outcome, th.parcel)
 }

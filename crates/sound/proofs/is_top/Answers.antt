@@ -1,17 +1,12 @@
 -- `sound::is_top` meets its contract: a word has one highest bit, and 0 has none. Assumes nothing.
-use mathlib.Core.Path.{◌≡◌, refl}
-use native.Mathlib.Nat.{one-le-pow}
+use mathlib.Core.Path.{◌≡◌}
 use native.Mathlib.Omega.{arith}
 use borrow.Author.Tests.{eq-eqb, eqb-true}
-use Rattle.laws.proofs.Split.{clash}
 use Rattle.laws.proofs.Word.{power_low}
 use Rattle.sound.proofs.is_top.Goals as goal
 
-pub returns-then-word-eq0 : goal.returns-then-word-eq0
-returns-then-word-eq0 c = (λ e. absurd (clash e refl), λ h. absurd (omega (arith, h.0, one-le-pow c.args.priority 2 (omega arith), c.if-word-eq0.true)))
-
-pub returns : goal.returns
-returns c =
+pub returns-then-word-ne0 : goal.returns-then-word-ne0
+returns-then-word-ne0 c =
     let w = c.args.word in
     let p = c.args.priority in
     let r = c.highest.result in
