@@ -18,7 +18,7 @@ use rules::{Answer, Outcome, Refusal, Wait};
 // SEND
 
 // The parcel goes to thread `i`: it ends the wait of a thread that waits to receive, and fills the mailbox of another.
-#[tactic(auto, unfolding(rules::specs::Mail::delivered), using(layout::proofs::Held::becomes_as))]
+#[tactic(auto, unfolding(rules::specs::Mail::delivered))]
 fn deliver(t: &mut [u8], i: usize, parcel: u32)
     requires { HasThread t.old i × Whole t.old }
     ensures { Becomes t.old t.new (on_threads (delivered i parcel)) }
@@ -32,7 +32,7 @@ fn deliver(t: &mut [u8], i: usize, parcel: u32)
 }
 
 // The parcel is delivered, or the sender must wait by number `n`. Refused in the order −1, −5.
-#[tactic(auto, unfolding(rules::specs::Mail::do_send), using(waiting::proofs::Doing::does_nothing, waiting::proofs::Doing::then_does))]
+#[tactic(auto, unfolding(rules::specs::Mail::do_send))]
 pub fn send(t: &mut [u8], i: u8, n: u32, parcel: u32) -> Answer
     requires { Serves t.old }
     ensures { Does t.old t.new result (λ s. do_send s i n parcel) }
@@ -51,7 +51,7 @@ pub fn send(t: &mut [u8], i: u8, n: u32, parcel: u32) -> Answer
 }
 
 // The parcel is delivered, or refused: in the order −1, −5.
-#[tactic(auto, unfolding(rules::specs::Mail::do_send_from_interrupt), using(waiting::proofs::Doing::does_nothing, waiting::proofs::Doing::then_does))]
+#[tactic(auto, unfolding(rules::specs::Mail::do_send_from_interrupt))]
 pub fn send_from_interrupt(t: &mut [u8], i: u8, parcel: u32) -> Answer
     requires { Serves t.old }
     ensures { Does t.old t.new result (λ s. do_send_from_interrupt s i parcel) }
@@ -85,7 +85,7 @@ fn empty_mailbox(t: &mut [u8], r: usize)
 }
 
 // The value of the caller's mailbox is taken, or the caller must wait by number `n`. Refused by −5.
-#[tactic(auto, unfolding(rules::specs::Mail::do_receive), using(waiting::proofs::Doing::then_does))]
+#[tactic(auto, unfolding(rules::specs::Mail::do_receive))]
 pub fn receive(t: &mut [u8], n: u32) -> Answer
     requires { Serves t.old }
     ensures { Does t.old t.new result (λ s. do_receive s n) }

@@ -24,7 +24,7 @@ fn number_of(th: Thread) -> u8
     requires { line_number (line th) < 256 }
     ensures { result ≡ line_number (line th) }
 {
-    marks::line_of(th) as u8
+    marks::number_of(marks::line_of(th)) as u8
 }
 
 // Is thread `i` sound, whoever else stands in its line? If it is, its line and its place are noted, and its bit in the ready word is given

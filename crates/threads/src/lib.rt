@@ -15,7 +15,7 @@ mod changes;
 mod refusals;
 
 // Never refused; under lock nothing is done.
-#[tactic(auto, unfolding(rules::specs::Threads::do_yield), using(waiting::proofs::Doing::does_as, waiting::proofs::Doing::then_does))]
+#[tactic(auto, unfolding(rules::specs::Threads::do_yield))]
 pub fn yield_turn(t: &mut [u8]) -> Answer
     requires { Serves t.old }
     ensures { Does t.old t.new result do_yield }
@@ -29,7 +29,7 @@ pub fn yield_turn(t: &mut [u8]) -> Answer
 }
 
 // Refused in the order −2, −3, −1.
-#[tactic(auto, unfolding(rules::specs::Threads::do_create), using(waiting::proofs::Doing::does_nothing, waiting::proofs::Doing::then_does, layout::proofs::Held::holds_sized))]
+#[tactic(auto, unfolding(rules::specs::Threads::do_create), using(layout::proofs::Held::holds_sized))]
 pub fn create(t: &mut [u8], i: u8, priority: u8, turn: u32) -> Answer
     requires { Serves t.old }
     ensures { Does t.old t.new result (λ s. do_create s i priority turn) }
@@ -45,7 +45,7 @@ pub fn create(t: &mut [u8], i: u8, priority: u8, turn: u32) -> Answer
 }
 
 // Refused in the order −1, −5.
-#[tactic(auto, unfolding(rules::specs::Threads::do_delete), using(waiting::proofs::Doing::does_nothing, waiting::proofs::Doing::then_does))]
+#[tactic(auto, unfolding(rules::specs::Threads::do_delete))]
 pub fn delete(t: &mut [u8], i: u8) -> Answer
     requires { Serves t.old }
     ensures { Does t.old t.new result (λ s. do_delete s i) }
@@ -57,7 +57,7 @@ pub fn delete(t: &mut [u8], i: u8) -> Answer
 }
 
 // Refused in the order −1, −4, −5.
-#[tactic(auto, unfolding(rules::specs::Threads::do_suspend), using(waiting::proofs::Doing::does_nothing, waiting::proofs::Doing::then_does))]
+#[tactic(auto, unfolding(rules::specs::Threads::do_suspend))]
 pub fn suspend(t: &mut [u8], i: u8) -> Answer
     requires { Serves t.old }
     ensures { Does t.old t.new result (λ s. do_suspend s i) }
@@ -77,7 +77,7 @@ pub fn suspend(t: &mut [u8], i: u8) -> Answer
 }
 
 // Refused in the order −1, −4.
-#[tactic(auto, unfolding(rules::specs::Threads::do_resume), using(waiting::proofs::Doing::does_nothing, waiting::proofs::Doing::then_does))]
+#[tactic(auto, unfolding(rules::specs::Threads::do_resume))]
 pub fn resume(t: &mut [u8], i: u8) -> Answer
     requires { Serves t.old }
     ensures { Does t.old t.new result (λ s. do_resume s i) }
@@ -96,7 +96,7 @@ pub fn resume(t: &mut [u8], i: u8) -> Answer
 }
 
 // Refused in the order −3, −5.
-#[tactic(auto, unfolding(rules::specs::Threads::do_delay), using(waiting::proofs::Doing::does_nothing, waiting::proofs::Doing::does_as))]
+#[tactic(auto, unfolding(rules::specs::Threads::do_delay))]
 pub fn delay(t: &mut [u8], n: u32) -> Answer
     requires { Serves t.old }
     ensures { Does t.old t.new result (λ s. do_delay s n) }
@@ -107,7 +107,7 @@ pub fn delay(t: &mut [u8], n: u32) -> Answer
 }
 
 // A delay is broken off.
-#[tactic(auto, unfolding(rules::specs::Threads::do_cancel, rules::specs::Threads::break_off), using(waiting::proofs::Doing::does_as))]
+#[tactic(auto, unfolding(rules::specs::Threads::do_cancel, rules::specs::Threads::break_off))]
 pub fn cancel(t: &mut [u8], i: u8) -> Answer
     requires { Serves t.old }
     ensures { Does t.old t.new result (λ s. do_cancel s i) }
@@ -124,7 +124,7 @@ fn changes_line(th: Thread, priority: u8) -> bool
 }
 
 // Refused in the order −2, −1, −5.
-#[tactic(auto, unfolding(rules::specs::Threads::do_set_priority), using(waiting::proofs::Doing::does_nothing, waiting::proofs::Doing::then_does))]
+#[tactic(auto, unfolding(rules::specs::Threads::do_set_priority))]
 pub fn set_priority(t: &mut [u8], i: u8, priority: u8) -> Answer
     requires { Serves t.old }
     ensures { Does t.old t.new result (λ s. do_set_priority s i priority) }
@@ -144,7 +144,7 @@ pub fn set_priority(t: &mut [u8], i: u8, priority: u8) -> Answer
 }
 
 // Refused in the order −3, −1, −5.
-#[tactic(auto, unfolding(rules::specs::Threads::do_set_turn), using(waiting::proofs::Doing::does_nothing, waiting::proofs::Doing::then_does))]
+#[tactic(auto, unfolding(rules::specs::Threads::do_set_turn))]
 pub fn set_turn(t: &mut [u8], i: u8, turn: u32) -> Answer
     requires { Serves t.old }
     ensures { Does t.old t.new result (λ s. do_set_turn s i turn) }

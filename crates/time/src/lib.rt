@@ -13,7 +13,7 @@ use rules::{Answer, Outcome, Refusal, Reply, Wait};
 // THE LOCK
 
 // "Lock −5 at 255": the lock's byte goes no higher.
-#[tactic(auto, unfolding(rules::specs::Time::do_lock), using(waiting::proofs::Doing::does_nothing, waiting::proofs::Doing::then_does))]
+#[tactic(auto, unfolding(rules::specs::Time::do_lock))]
 pub fn lock(t: &mut [u8]) -> Answer
     requires { Serves t.old }
     ensures { Does t.old t.new result do_lock }
@@ -26,7 +26,7 @@ pub fn lock(t: &mut [u8]) -> Answer
 }
 
 // "Unlock −5 at 0."
-#[tactic(auto, unfolding(rules::specs::Time::do_unlock), using(waiting::proofs::Doing::does_nothing, waiting::proofs::Doing::then_does))]
+#[tactic(auto, unfolding(rules::specs::Time::do_unlock))]
 pub fn unlock(t: &mut [u8]) -> Answer
     requires { Serves t.old }
     ensures { Does t.old t.new result do_unlock }
@@ -41,7 +41,7 @@ pub fn unlock(t: &mut [u8]) -> Answer
 // THE TICK
 
 // Thread `r`, which runs, is charged: its counter less 1 and, if that gives 0, the tail of its line with a full counter.
-#[tactic(auto, unfolding(rules::specs::Time::charge), using(layout::proofs::Held::becomes_as))]
+#[tactic(auto, unfolding(rules::specs::Time::charge))]
 fn charge(t: &mut [u8], r: usize)
     requires { HasThread t.old r × Whole t.old }
     ensures { Becomes t.old t.new (on_threads (charge r)) }
@@ -55,7 +55,7 @@ fn charge(t: &mut [u8], r: usize)
 }
 
 // With lock 0 the running thread is charged.
-#[tactic(auto, unfolding(rules::specs::Time::charged), using(layout::proofs::Held::becomes_as, layout::proofs::Held::becomes_same))]
+#[tactic(auto, unfolding(rules::specs::Time::charged))]
 fn charged(t: &mut [u8])
     requires { Serves t.old }
     ensures { Becomes t.old t.new (λ s. with_threads (charged s) s) }
@@ -78,7 +78,7 @@ fn timed_out(w: Wait) -> Outcome
 }
 
 // The wait of thread `i` counts down, if it has a counter above 0, and at 0 ends.
-#[tactic(auto, unfolding(rules::specs::Time::count_down), using(layout::proofs::Held::becomes_as, layout::proofs::Held::becomes_same))]
+#[tactic(auto, unfolding(rules::specs::Time::count_down))]
 fn count_down(t: &mut [u8], i: usize)
     requires { HasThread t.old i × Whole t.old }
     ensures { Becomes t.old t.new (on_threads (count_down i)) }
@@ -95,6 +95,7 @@ fn count_down(t: &mut [u8], i: usize)
 }
 
 // Every wait counts down, by thread number.
+#[tactic(auto, unfolding(rules::specs::Time::timeouts))]
 fn timeouts(t: &mut [u8])
     requires { Whole t.old }
     ensures { Becomes t.old t.new (on_threads (λ ts. timeouts (length ts) ts)) }
@@ -127,7 +128,7 @@ fn outcome_answer(outcome: Outcome, parcel: u32) -> Answer
     })
 }
 
-#[tactic(auto, unfolding(rules::specs::Time::do_outcome), using(waiting::proofs::Doing::does_nothing))]
+#[tactic(auto, unfolding(rules::specs::Time::do_outcome))]
 pub fn outcome(t: &[u8], i: u8) -> Answer
     requires { Serves t.now }
     ensures { Does t.now t.now result (λ s. do_outcome s i) }

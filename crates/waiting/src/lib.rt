@@ -98,7 +98,7 @@ pub fn in_use(t: &[u8], i: u8) -> Result<Thread, Refusal>
 
 // The wait of thread `i` ends with −5, where `named` says whether it is of the kind that the operation names. Refused in the order −1, −4.
 // It stays a flag: the theorem `waiting_break_off` says that the promise determines the answer, and no promise on a closure does.
-#[tactic(auto, unfolding(rules::specs::Threads::break_off), using(crate::proofs::Doing::does_nothing, crate::proofs::Doing::then_does))]
+#[tactic(auto, unfolding(rules::specs::Threads::break_off))]
 pub fn break_off(t: &mut [u8], i: u8, named: bool) -> Answer
     requires { Serves t.old }
     ensures { Does t.old t.new result (λ s. break_off (λ w. named) s i) }
@@ -147,7 +147,7 @@ pub fn wait_counter(n: u32) -> u32
 }
 
 // A call that must wait by wait number `n`: `w` is the wait, with the counter that the number leaves.
-#[tactic(auto, unfolding(rules::specs::Waiting::must_wait), using(crate::proofs::Doing::does_nothing, crate::proofs::Doing::does_as))]
+#[tactic(auto, unfolding(rules::specs::Waiting::must_wait))]
 pub fn must_wait(t: &mut [u8], n: u32, w: Wait, parcel: u32) -> Answer
     requires { (waiting w ≡ true) × Serves t.old }
     ensures { (kind : ℕ → Wait) → w ≡ kind (wait_counter n) → Does t.old t.new result (λ s. must_wait s n kind parcel) }
