@@ -64,6 +64,7 @@ pub fn make(t: &mut [u8], k: u8, n: u32) -> Answer
 }
 
 // Its waiters end with −5 in line order, and its record is free. Refused by −6.
+#[tactic(auto, unfolding(rules::specs::Semaphores::do_drop))]
 pub fn drop_semaphore(t: &mut [u8], k: u8) -> Answer
     requires { Serves t.old }
     ensures { Does t.old t.new result (λ s. do_drop s k) }
@@ -86,6 +87,7 @@ pub fn drop_semaphore(t: &mut [u8], k: u8) -> Answer
 // PEND AND ABORT
 
 // One is taken and the value is what is left, or the caller must wait by number `n`. Refused in the order −6, −5.
+#[tactic(auto, unfolding(rules::specs::Semaphores::do_pend))]
 pub fn pend(t: &mut [u8], k: u8, n: u32) -> Answer
     requires { Serves t.old }
     ensures { Does t.old t.new result (λ s. do_pend s k n) }
@@ -101,6 +103,7 @@ pub fn pend(t: &mut [u8], k: u8, n: u32) -> Answer
 }
 
 // A wait on a semaphore is broken off.
+#[tactic(auto, unfolding(rules::specs::Semaphores::do_abort, rules::specs::Threads::break_off))]
 pub fn abort(t: &mut [u8], i: u8) -> Answer
     requires { Serves t.old }
     ensures { Does t.old t.new result (λ s. do_abort s i) }
@@ -120,6 +123,7 @@ fn too_many(count: u8, n: u32, over: u32) -> bool
 }
 
 // The units go to the waiters in line order, and the rest is added to the count. Refused in the order −6, −5.
+#[tactic(auto, unfolding(rules::specs::Semaphores::posted, rules::specs::Semaphores::do_post))]
 pub fn post(t: &mut [u8], k: u8, n: u32) -> Answer
     requires { Serves t.old }
     ensures { Does t.old t.new result (λ s. do_post s k n) }
@@ -137,6 +141,7 @@ pub fn post(t: &mut [u8], k: u8, n: u32) -> Answer
 }
 
 // A Post that is refused by −5 under lock too.
+#[tactic(auto, unfolding(rules::specs::Semaphores::do_post_from_interrupt))]
 pub fn post_from_interrupt(t: &mut [u8], k: u8, n: u32) -> Answer
     requires { Serves t.old }
     ensures { Does t.old t.new result (λ s. do_post_from_interrupt s k n) }

@@ -4,13 +4,9 @@ use Rattle.rules.specs.Lines.{waiters}
 use Rattle.rules.specs.Semaphores.{do_drop}
 use Rattle.layout.proofs.Held.{◌⨾◌}
 use Rattle.waiting.proofs.Doing.{then_does}
-use Rattle.waiting.proofs.Tests.{passed, refuses}
+use Rattle.waiting.proofs.Tests.{passed}
 use Rattle.semaphores.proofs.Numbers.{sem_there}
 use Rattle.semaphores.proofs.drop_semaphore.Goals as goal
-
-pub returns-in_err-in_use : goal.returns-in_err-in_use
-unfolding do_drop
-returns-in_err-in_use c = refuses _ c.requires.whole c.from_residual.ensures c.in_err-in_use.ensures (λ s e p. rw p)
 
 pub set_sem-requires : goal.set_sem-requires
 set_sem-requires c =
