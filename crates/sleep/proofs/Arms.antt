@@ -1,13 +1,11 @@
--- What a leap is, in each of its arms. Assumes nothing.
+-- What a leap with lock 0 is, and what it is in each of its arms. Assumes nothing.
 use mathlib.Core.Path.{◌≡◌}
 use mathlib.Core.Logic.{◌≢◌}
 use Prim.Native.Nat.{ℕ, pred, ◌/◌, ◌≤◌, ◌<◌, min}
 use borrow.Author.Tests.{eq-eqb, ne_eqb, le-leb, lt-leb}
 use Rattle.rules.specs.State.{State, caller, counter_of}
 use Rattle.fairness.specs.Run.{sum_turns}
-use Rattle.leaps.specs.Ticks.{quiet_of, tick_of, locked_of, rounds_of, turn_of, leap_unlocked, leap}
-
--- WITH LOCK 0
+use Rattle.leaps.specs.Ticks.{quiet_of, tick_of, rounds_of, turn_of, leap_unlocked, leap}
 
 module _ (q : ℕ) (s : State) where
   pub by_rounds : (R : ℕ) → sum_turns (caller s).priority s.threads ≡ R → R ≤ q → leap_unlocked q s ≡ rounds_of (q / R) R s
@@ -22,17 +20,6 @@ module _ (q : ℕ) (s : State) where
   unfolding leap_unlocked
   by_turn l k = rw (lt-leb (sum_turns (caller s).priority s.threads) q l, lt-leb (counter_of (caller s).wait) 1 k)
 
--- WITH ANY LOCK
-
-module _ (n q : ℕ) (s : State) (e : quiet_of n s.threads ≡ q) where
-  pub by_end : q ≡ 0 → leap n s ≡ tick_of s
-  unfolding leap
-  by_end z = rw (e, eq-eqb q 0 z)
-
-  pub by_lock : q ≢ 0 → s.lock ≢ 0 → leap n s ≡ locked_of q s
-  unfolding leap
-  by_lock k z = rw (e, ne_eqb q 0 k, ne_eqb s.lock 0 z)
-
-  pub by_rank : q ≢ 0 → s.lock ≡ 0 → leap n s ≡ leap_unlocked q s
-  unfolding leap
-  by_rank k z = rw (e, ne_eqb q 0 k, eq-eqb s.lock 0 z)
+pub by_rank : (n q : ℕ) (s : State) → quiet_of n s.threads ≡ q → q ≢ 0 → s.lock ≡ 0 → leap n s ≡ leap_unlocked q s
+unfolding leap
+by_rank n q s e k z = rw (e, ne_eqb q 0 k, eq-eqb s.lock 0 z)

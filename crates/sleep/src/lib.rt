@@ -61,6 +61,7 @@ fn nearest_end(t: &[u8]) -> u32
     n
 }
 
+#[tactic(auto, unfolding(rules::specs::Sleep::do_nearest))]
 pub fn nearest(t: &[u8]) -> Answer
     requires { Serves t.now }
     ensures { Does t.now t.now result do_nearest }
@@ -150,6 +151,7 @@ pub struct Leapt {
 }
 
 // `m` ticks of a turn that goes on, where thread `r` runs with `left` ticks of it left.
+#[tactic(auto, unfolding(leaps::specs::Ticks::passed, leaps::specs::Ticks::ran))]
 fn run_on(t: &mut [u8], r: usize, left: u32, m: u32)
     requires has_thread { HasThread t.old r × (m ≤ left) × Whole t.old }
     requires r_value { (s : State) → said t.old ≡ s → (r ≡ s.running) × (left ≡ counter_of (caller s).wait) }
@@ -185,6 +187,7 @@ fn leap_unlocked(t: &mut [u8], q: u32) -> Leapt
 }
 
 // Some of `n` ticks at once, at least one.
+#[tactic(auto, unfolding(leaps::specs::Ticks::leap))]
 pub fn leap(t: &mut [u8], n: u32) -> Leapt
     requires { Serves t.old × (1 ≤ n) }
     ensures leapt { (s : State) → Holds t.old s → (result.far ≡ (leap n s).far) × (result.rounds ≡ (leap n s).rounds) }
@@ -203,6 +206,7 @@ pub fn leap(t: &mut [u8], n: u32) -> Leapt
 }
 
 // That many ticks.
+#[tactic(auto, unfolding(rules::specs::Sleep::do_ticks))]
 pub fn ticks(t: &mut [u8], n: u32) -> Answer
     requires { Serves t.old }
     ensures { Does t.old t.new result (λ s. do_ticks s n) }
