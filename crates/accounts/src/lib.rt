@@ -4,7 +4,6 @@
 #![tactic(auto)]
 
 ghost use Rattle.std.specs.Prelude.{◌≡◌, ◌+◌, ◌-◌, ◌*◌, ◌≤◌, length, take, drop};
-ghost use Rattle.std.proofs.lemmas.List.Edits.{sets};
 ghost use Rattle.rules.specs.Board.{printer, table_length};
 ghost use Rattle.rules.specs.Requests.{request_length, decode_request};
 ghost use Rattle.rules.specs.Door.{door, table_after};
@@ -14,6 +13,7 @@ ghost use Rattle.lanes.specs.Report.{most_records};
 ghost use Rattle.lanes.specs.Kept.{Within, Kept};
 ghost use Rattle.accounts.specs.Accounts.{accounts_from, entered, events_here, handed, events_of, servable, Finds};
 
+use buffer::Buffer;
 use rules::{Decoded, Request};
 
 mod charges;
@@ -94,7 +94,7 @@ fn copy_of(table: &[u8]) -> [u8; rules::TABLE]
     ensures { result ≡ table.now }
 {
     let mut copy = [0u8; rules::TABLE];
-    text::put_bytes(&mut copy, 0, table);
+    copy.copy_from_slice(table);
     copy
 }
 
@@ -147,40 +147,26 @@ fn servable(number: usize, n: usize) -> usize
     requires { number ≤ most_records }
     ensures { result ≡ servable number n }
 {
-    let whole = n / rules::REQUEST;
-    let left = MOST_RECORDS - number;
-    if whole < left { whole } else { left }
+    (n / rules::REQUEST).min(MOST_RECORDS - number)
 }
 
-// Where a replay stands after a part: how many records are served, and how many bytes are held at the front of the block.
-#[derive(Clone, Copy)]
-pub struct Stood {
-    pub number: usize,
-    pub held: usize,
-}
-
-// `number` records are served, and the first `n` bytes of the block have come: the whole records among them are served and entered, but no more
-// than 1,000,000 in all, and what is left over moves to the front of the block.
-pub fn serve(
-    table: &mut [u8],
-    accounts: &mut [u64],
+// `number` records are served, and the bytes of the block have come: the whole records among them are served and entered, but no more than
+// 1,000,000 in all, and what is left over stays in the block. How many are served by then is given back.
+pub fn serve<const N: usize>(
+    table: &mut [u8; rules::TABLE],
+    accounts: &mut [u64; rules::THREADS],
     number: usize,
-    block: &mut [u8],
-    n: usize,
-) -> Stood
-    requires table_len { length table.old ≡ table_length printer }
-    requires kept { Kept (most_records - number) accounts.old }
-    requires number_le_most_records { (number ≤ most_records) × (n ≤ length block.old) }
-    ensures stood { (result.number ≡ number + servable number n) × (result.held ≡ n - servable number n * request_length) }
-    ensures table { table.new ≡ table_after printer table.old (handed (servable number n) (take n block.old)) }
-    ensures accounts { accounts.new ≡ accounts_from 0 accounts.old (events_of table.old (servable number n) (take n block.old)) }
-    ensures block { block.new ≡ sets block.old 0 (drop (servable number n * request_length) (take n block.old)) }
+    block: &mut Buffer<N>,
+) -> usize
+    requires within { Within (most_records - number) accounts.old }
+    requires number_le_most_records { number ≤ most_records }
+    ensures number { result ≡ number + servable number (length block.old) }
+    ensures table { table.new ≡ table_after printer table.old (handed (servable number (length block.old)) block.old) }
+    ensures accounts { accounts.new ≡ accounts_from 0 accounts.old (events_of table.old (servable number (length block.old)) block.old) }
+    ensures block { block.new ≡ drop (servable number (length block.old) * request_length) block.old }
 {
-    let k = servable(number, n);
-    serve_records(table, accounts, &block[..n], k);
-    let held = parts::keep(block, k * rules::REQUEST, n);
-    Stood {
-        number: number + k,
-        held,
-    }
+    let k = servable(number, block.len());
+    serve_records(table, accounts, block.as_slice(), k);
+    block.drop_front(k * rules::REQUEST);
+    number + k
 }

@@ -1,4 +1,4 @@
--- What is served goes on as the input does: the bytes that are held and those that a read put behind them are the first of the block, and what
+-- What is served goes on as the input does: the bytes that are held and those that a read put behind them are those of the block, and what
 -- is left over of them is held next. At the end the report of the table and of the accounts is the report of all that came. Assumes nothing.
 use Rattle.std.specs.Prelude.{if◌then◌else◌}
 use mathlib.Core.Path.{◌≡◌, refl, sym, ap, subst, ◌∙◌}
@@ -8,7 +8,7 @@ use native.Mathlib.Omega.{arith}
 use lib.Dec.{ltb, leb}
 use borrow.Author.Tests.{leb-true, leb-false, lt-ltb, le-ltb}
 use lib.ListN.{length, take, drop, length-append, length-drop}
-use lib.Seq.{sets, drop-drop, drop-append-le, length-take-le}
+use lib.Seq.{drop-drop, drop-append-le}
 use Rattle.rules.specs.Board.{printer}
 use Rattle.rules.specs.Requests.{request_length}
 use Rattle.rules.specs.Sound.{Sound}
@@ -18,8 +18,6 @@ use Rattle.rules.specs.Trace.{records, cleanly, whole_records}
 use Rattle.laws.proofs.Split.{is, isnt, test}
 use Rattle.layout.proofs.RoundTrip.{on_decode}
 use Rattle.text.specs.Text.{ascii}
-use Rattle.text.specs.Puts.{Puts}
-use Rattle.text.proofs.Putting.{front, puts_front}
 use Rattle.parts.proofs.Behind.{come, part_size}
 use Rattle.parts.proofs.Whole.{records_front, records_take}
 use Rattle.fairness.specs.Run.{Event, end_of}
@@ -84,16 +82,10 @@ module _ (first : ℕ) (low : first ≤ most_records) (seen part : List ℕ) whe
       ∙ sym (drop-drop (now_served * request_length) (before * request_length) (seen ++ part))
       ∙ ap (drop (now_served * request_length)) behind
 
--- what is kept stands at the front of the block
-kept_front : (block : List ℕ) (n m : ℕ) → n ≤ length block → take (n - m) (sets block 0 (drop m (take n block))) ≡ drop m (take n block)
-kept_front block n m h =
-    let size : length (drop m (take n block)) ≡ n - m = length-drop m (take n block) ∙ ap (λ k. k - m) (length-take-le n block h) in
-    ap (λ k. take k (sets block 0 (drop m (take n block)))) (sym size) ∙ front block (drop m (take n block)) (omega (arith, size))
-
 -- nothing has come
-pub none_seen : (first : ℕ) (t ns block : List ℕ) → Stands first t ns 0 first t ns (take 0 block)
+pub none_seen : (first : ℕ) (t ns : List ℕ) → Stands first t ns 0 first t ns []
 unfolding table_after run_of records
-none_seen first t ns block =
+none_seen first t ns =
     let none : servable first 0 ≡ 0 = omega arith in
     record {
       seen = [];
@@ -104,38 +96,28 @@ none_seen first t ns block =
       left = ap (λ k. drop (k * request_length) []) (sym none);
     }
 
--- a read has put bytes behind those that are held, and they are served
-pub stands_part : {first bytes number : ℕ} {t ns t₁ ns₁ : List ℕ} (block block' : List ℕ) (held n : ℕ) → take held block' ≡ take held block → held ≤ n → n ≤ length block'
-    → first ≤ most_records → Stands first t ns bytes number t₁ ns₁ (take held block)
-    → (t' ns' block'' : List ℕ) (number' held' : ℕ) → number' ≡ number + servable number n → held' ≡ n - servable number n * request_length
-    → t' ≡ table_after printer t₁ (handed (servable number n) (take n block'))
-    → ns' ≡ accounts_from 0 ns₁ (events_of t₁ (servable number n) (take n block'))
-    → block'' ≡ sets block' 0 (drop (servable number n * request_length) (take n block'))
-    → Stands first t ns (bytes + (n - held)) number' t' ns' (take held' block'')
-stands_part {first} {bytes} {number} {t} {ns} {t₁} {ns₁} block block' held n stay lower inside low p t' ns' block'' number' held' en eh et ea eb =
-    let part = drop held (take n block') in
+-- a read has put n bytes behind those that are held, and they are served
+pub stands_part : {first bytes number : ℕ} {t ns t₁ ns₁ : List ℕ} (held block : List ℕ) (n : ℕ) → take (length held) block ≡ held → length block ≡ length held + n
+    → first ≤ most_records → Stands first t ns bytes number t₁ ns₁ held
+    → (t' ns' block' : List ℕ) (number' : ℕ) → number' ≡ number + servable number (length block)
+    → t' ≡ table_after printer t₁ (handed (servable number (length block)) block)
+    → ns' ≡ accounts_from 0 ns₁ (events_of t₁ (servable number (length block)) block)
+    → block' ≡ drop (servable number (length block) * request_length) block
+    → Stands first t ns (bytes + n) number' t' ns' block'
+stands_part {first} {bytes} {number} {t} {ns} {t₁} {ns₁} held block n stay more low p t' ns' block' number' en et ea eb =
+    let part = drop (length held) block in
     let seen = p.seen in
-    let k = servable number n in
-    let at-hand : rest first low seen part ++ part ≡ take n block' = ap (λ l. l ++ part) (sym p.left) ∙ come block block' held n stay lower inside in
-    let many : length (rest first low seen part ++ part) ≡ n = ap length at-hand ∙ length-take-le n block' inside in
-    let same : now_served first low seen part ≡ k = λ j. servable (sym p.count j) (many j) in
+    let k = servable number (length block) in
+    let at-hand : rest first low seen part ++ part ≡ block = ap (λ l. l ++ part) (sym p.left) ∙ come held block n stay more in
+    let same : now_served first low seen part ≡ k = λ j. servable (sym p.count j) (length (at-hand j)) in
     record {
       seen = seen ++ part;
-      size = length-append seen part ∙ (λ j. p.size j + part_size block block' held n stay lower inside j);
+      size = length-append seen part ∙ (λ j. p.size j + part_size held block n stay more j);
       count = omega (arith, en, p.count, served_more first low seen part, same);
       table = et ∙ (λ j. table_after printer (p.table j) (handed (sym same j) (sym at-hand j))) ∙ sym (table_more first low seen part t);
       accounts = ea ∙ (λ j. accounts_from 0 (p.accounts j) (events_of (p.table j) (sym same j) (sym at-hand j))) ∙ sym (accounts_more first low seen part t ns);
-      left =
-          (λ j. take (eh j) (eb j))
-          ∙ kept_front block' n (k * request_length) inside
-          ∙ (λ j. drop (sym same j * request_length) (sym at-hand j))
-          ∙ sym (left_more first low seen part);
+      left = eb ∙ (λ j. drop (sym same j * request_length) (sym at-hand j)) ∙ sym (left_more first low seen part);
     }
-
--- a read has put nothing behind them
-pub stands_same : {first bytes number : ℕ} {t ns t' ns' : List ℕ} (block block' : List ℕ) (held : ℕ) → take held block' ≡ take held block
-    → Stands first t ns bytes number t' ns' (take held block) → Stands first t ns bytes number t' ns' (take held block')
-stands_same {first} {bytes} {number} {t} {ns} {t'} {ns'} block block' held e p = subst (λ l. Stands first t ns bytes number t' ns' l) (sym e) p
 
 -- WHERE IT STANDS
 
@@ -185,14 +167,7 @@ module _ {first bytes number : ℕ} {t ns t' ns' held : List ℕ} (p : Stands fi
         (sym recs)
 
 -- the run ends
-pub ended_by : {first bytes number next : ℕ} {t ns t' ns' out out' : List ℕ} (block : List ℕ) (held : ℕ) → first ≤ most_records → length ns ≡ printer.threads
-    → (p : Stands first t ns bytes number t' ns' (take held block)) → held ≤ length block → (bytes' number' held' : ℕ) → bytes' ≡ bytes → number' ≡ number → held' ≡ held
-    → Puts out 0 (report_text (leb request_length held) (of ns') (decode printer t')) out' next → next ≤ length out
-    → Ended first t ns bytes' number' t' ns' (take held' block) (take next out')
-ended_by {t' = t'} {ns' = ns'} block held low long p inside bytes' number' held' eb en eh q room = rw (eb, en, eh) (record {
-  stands = p;
-  prints =
-      puts_front q room
-      ∙ ap (λ n. report_text (leb request_length n) (of ns') (decode printer t')) (sym (length-take-le held block inside))
-      ∙ reported p low long;
-})
+pub ended_by : {first bytes number : ℕ} {t ns t' ns' block out : List ℕ} → first ≤ most_records → length ns ≡ printer.threads
+    → Stands first t ns bytes number t' ns' block → out ≡ report_text (leb request_length (length block)) (of ns') (decode printer t')
+    → Ended first t ns bytes number t' ns' block out
+ended_by low long p q = record { stands = p; prints = q ∙ reported p low long }

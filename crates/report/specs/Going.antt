@@ -10,10 +10,6 @@ use Rattle.lanes.specs.Report.{report_on}
 use Rattle.lanes.specs.Kept.{of}
 use Rattle.accounts.specs.Accounts.{accounts_from, handed, events_of, servable}
 
--- a block holds 1,024 records
-abbrev pub block_length : ℕ
-block_length = 1024 * request_length
-
 -- so many bytes have come since the replay went on from `first` records with table t and accounts ns, and have left it where it stands: `number`
 -- records are served, and the bytes that are held are not
 pub record Stands (first : ℕ) (t ns : List ℕ) (bytes number : ℕ) (t' ns' held : List ℕ) : Type 0 where

@@ -37,7 +37,7 @@ pub fn put_number<const N: usize>(out: &mut Buffer<N>, n: u64)
 // A number and the byte after it.
 pub fn put_field<const N: usize>(out: &mut Buffer<N>, n: u64, after: u8)
     requires { length out.old + length (decimal n) < N }
-    ensures { out.new ≡ out.old ++ decimal n ++ after ∷ [] }
+    ensures { out.new ≡ out.old ++ (decimal n ++ after ∷ []) }
 {
     put_number(out, n);
     out.push(after);
