@@ -1,15 +1,17 @@
 -- The pieces of a block by their places: a line up to its line feed, and a record of 12 bytes. Assumes nothing.
+use Rattle.std.specs.Prelude as std
+use Rattle.std.specs.Prelude.{Some, None, cond, position}
+use Rattle.std.specs.List.{position_or_len}
 use mathlib.Core.Path.{◌≡◌, refl, sym, ap, subst, ◌∙◌}
 use mathlib.Core.Bool.{Bool, true, false}
 use mathlib.Core.List.{List, [], ◌∷◌, ◌++◌, flatten, append-nil}
 use mathlib.Core.Option.{Option, none, some, none-ne-some}
 use Prim.Native.Nat.{ℕ, zero, suc, ◌+◌, ◌-◌, ◌/◌, ◌≤◌, ◌<◌}
-use native.Mathlib.Decide.{dec_lt}
 use native.Mathlib.Omega.{arith}
-use lib.Dec.{eqb}
-use lib.ListN.{length, length-append, length-take, length-drop, get_or, take, drop, drop_of_length-le}
-use lib.Seq.{drop-cons, drop-drop, sets, length-take-le}
-use borrow.Author.Tests.{eqb-true}
+use lib.Dec.{eqb, ltb}
+use lib.ListN.{length, length-append, length-take, length-drop, take, drop}
+use lib.Seq.{take_all, drop-drop, sets, length-take-le}
+use borrow.Author.Tests.{eqb-true, ltb-true, ltb-false}
 use Rattle.rules.specs.Basic.{find}
 use Rattle.rules.specs.Requests.{request_length}
 use Rattle.rules.specs.Trace.{records, whole_records}
@@ -18,7 +20,8 @@ use Rattle.laws.proofs.Split.{is, isnt, test, clash}
 use Rattle.text.specs.Puts.{Puts}
 use Rattle.listing.specs.Line.{line_of, record_of, number_from}
 use Rattle.listing.specs.Listing.{Cut, line_feed, text_of, lines_of}
-use Rattle.writer.specs.Places.{line_end, given, is_given, fed, listed_room, Block}
+use Rattle.writer.specs.Fields.{given, is_given, fed, listed_room}
+use Rattle.writer.specs.Places.{Block}
 use Rattle.listing.specs.declared.Way.TheVariants.{ToRecords, ToListing}
 use Rattle.listing.proofs.Numbers.{clean}
 use Rattle.listing.proofs.Texts.{first_line}
@@ -27,22 +30,34 @@ use Rattle.writer.proofs.Block.{Next, Sofar, one_more, stops, ends}
 
 -- THE END OF A LINE
 
-pub line_goes_on : (text : List ℕ) (at : ℕ) → at < length text → eqb (get_or text at 0) line_feed ≡ false → line_end text at ≡ line_end text (at + 1)
-unfolding line_end
-line_goes_on text at h e =
-    let next : at + 1 ≡ suc at = omega arith in
-    rw (drop-cons text at 0 h, e, next) (omega arith)
-
-pub line_ends : (text : List ℕ) (at : ℕ) → at ≤ length text → (at < length text → eqb (get_or text at 0) line_feed ≡ true) → at ≡ line_end text at
-unfolding line_end
-line_ends text at h e =
-    elim (dec_lt at (length text)) [
-      | yes l ↦ rw (drop-cons text at 0 l, e l) (omega arith)
-      | no l ↦ rw (drop_of_length-le text {i = at} (omega arith)) (omega arith)
-    ]
-
 abbrev feed : List ℕ → ℕ
 feed t = find (λ c. eqb c line_feed) t
+
+feed_place : (t : List ℕ) → position_or_len (λ c. eqb c line_feed) t ≡ feed t
+feed_place [] = refl
+feed_place (c ∷ t) =
+    elim (test (eqb c line_feed)) [
+      | is e ↦ rw e refl
+      | isnt e ↦ rw e (omega (arith, feed_place t))
+    ]
+
+-- the place of the first line feed from a place on; the text's length where there is none
+unfoldable pub line_end : List ℕ → ℕ → ℕ
+line_end text at = at + feed (drop at text)
+
+found_by : (k l : ℕ) → (n : ℕ) → Some n ≡ cond (ltb k l) (Some k) None → (n ≡ k) × (k < l)
+found_by k l n e =
+    elim (test (ltb k l)) [
+      | is h ↦ (ap (λ (o : std.Option ℕ). std.unwrap_or o n) (rw h at e), ltb-true k l h)
+      | isnt h ↦ absurd (clash refl (ap std.is_some (rw h at e)))
+    ]
+
+none_by : (k l : ℕ) → None ≡ cond (ltb k l) (Some k) None → l ≤ k
+none_by k l e =
+    elim (test (ltb k l)) [
+      | is h ↦ absurd (clash refl (ap std.is_some (sym (rw h at e))))
+      | isnt h ↦ omega (arith, ltb-false k l h)
+    ]
 
 -- a text up to its first line feed, if it has one
 feed_splits : (t : List ℕ) → feed t < length t → (clean (take (feed t) t) ≡ true) × (t ≡ take (feed t) t ++ line_feed ∷ drop (suc (feed t)) t)
@@ -147,6 +162,26 @@ module _ {text before : List ℕ} {n at next : ℕ} {after : List ℕ} (s : Sofa
       let m = given_none found (sym g ∙ e) in
       rw (q ∙ ap (λ (x : Option (List ℕ)). sets after next (given x)) m) (stops s there_now m)
 
+-- what `position` answers of the rest of the text says whether a line is there
+abbrev pub rest_at : List ℕ → ℕ → List ℕ
+rest_at text at = take (length text - at) (drop at text)
+
+rest_all : (text : List ℕ) (at : ℕ) → rest_at text at ≡ drop at text
+rest_all text at = take_all (length text - at) (drop at text) (omega (arith, length-drop at text))
+
+pub found_end : (text : List ℕ) (at n : ℕ) → Some n ≡ position (λ c. eqb c line_feed) (rest_at text at) → at ≤ length text → (at + n ≡ line_end text at) × (at + n < length text)
+unfolding line_end
+found_end text at n e h =
+    let there : Some n ≡ position (λ c. eqb c line_feed) (drop at text) = e ∙ ap (position (λ c. eqb c line_feed)) (rest_all text at) in
+    let f = found_by (position_or_len (λ c. eqb c line_feed) (drop at text)) (length (drop at text)) n there in
+    (omega (arith, f.0, feed_place (drop at text)), omega (arith, f.0, f.1, length-drop at text))
+
+pub no_end : (text : List ℕ) (at : ℕ) → None ≡ position (λ c. eqb c line_feed) (rest_at text at) → at ≤ length text → length text ≤ line_end text at
+unfolding line_end
+no_end text at e h =
+    let there : None ≡ position (λ c. eqb c line_feed) (drop at text) = e ∙ ap (position (λ c. eqb c line_feed)) (rest_all text at) in
+    omega (arith, none_by (position_or_len (λ c. eqb c line_feed) (drop at text)) (length (drop at text)) there, feed_place (drop at text), length-drop at text)
+
 pub lines_end : {text before : List ℕ} {n at next : ℕ} {after : List ℕ} → Sofar ToRecords text before n at next after → length text ≤ line_end text at
     → Block ToRecords text before after n at next false
 unfolding line_end
@@ -186,26 +221,18 @@ module _ {input before : List ℕ} {n at next : ℕ} {after : List ℕ} (s : Sof
       let twelve : at + request_length - at ≡ request_length = omega arith in
       subst (λ (k : ℕ). Next ToListing input at (take k (drop at input)) (at + request_length)) (sym twelve) (next_record input at h)
 
-  -- a line has a line feed at least
-  fed_some : (m : Option (List ℕ)) → Puts after next (fed m) later end → next < end → (l : List ℕ) × (m ≡ some l)
-  fed_some none q e = absurd (omega (arith, q.place))
-  fed_some (some l) q e = (l, refl)
-
-  fed_none : (m : Option (List ℕ)) → Puts after next (fed m) later end → end ≡ next → (m ≡ none) × (later ≡ after)
-  fed_none none q e = (refl, q.bytes)
-  fed_none (some l) q e = absurd (omega (arith, q.place, length-append l (line_feed ∷ [])))
-
-  pub record_taken : (end ≡ next → ⊥) → Sofar ToListing input before (n + 1) (at + request_length) end later
+  pub record_taken : is_given (line_of piece) ≡ true → Sofar ToListing input before (n + 1) (at + request_length) end later
   unfolding text_of
   record_taken e =
-      let m = fed_some (line_of piece) p (omega (arith, p.place)) in
-      let puts : Puts after next (fed (some m.0)) later end = subst (λ (x : Option (List ℕ)). Puts after next (fed x) later end) m.1 p in
-      one_more s m.0 there_too m.1 puts (omega arith) (omega (arith, s.room))
+      let m = given_some (line_of piece) e in
+      let puts : Puts after next (fed (some (given (line_of piece)))) later end = subst (λ (x : Option (List ℕ)). Puts after next (fed x) later end) m p in
+      one_more s (given (line_of piece)) there_too m puts (omega arith) (omega (arith, s.room))
 
-  pub record_bad : end ≡ next → Block ToListing input before later n at next true
-  record_bad e =
-      let m = fed_none (line_of piece) p e in
-      rw m.1 (stops s there_too m.0)
+  pub record_bad : end ≡ next → is_given (line_of piece) ≡ false → Block ToListing input before later n at next true
+  record_bad k e =
+      let m = given_none (line_of piece) e in
+      let bytes : later ≡ after = p.bytes ∙ ap (λ (x : Option (List ℕ)). sets after next (fed x)) m in
+      rw bytes (stops s there_too m)
 
 pub records_end : {input before : List ℕ} {n at next : ℕ} {after : List ℕ} → Sofar ToListing input before n at next after → length input < at + request_length
     → Block ToListing input before after n at next false

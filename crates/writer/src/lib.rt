@@ -17,35 +17,17 @@ mod blocks;
 mod putting;
 mod reading;
 
-// The largest object and priority, of a byte; the largest number and data, of a word.
-const MOST_BYTE: u64 = 255;
-
-const MOST_WORD: u64 = 4294967295;
-
-// What a number that no field can hold is told as.
-const TOO_LARGE: u64 = MOST_WORD + 1;
-
 // The most characters of a line before its line feed.
 const LINE_MOST: usize = 40;
 
-// A number that stands in a line, 2^32 in the place of a larger one, and the place after it.
+// The fields of a record.
 #[derive(Clone, Copy)]
-pub enum Number {
-    NoNumber,
-    Read(u64, usize),
-}
-
-// What a line says.
-#[derive(Clone, Copy)]
-pub enum Line {
-    BadLine,
-    Fields {
-        operation: u8,
-        object: u8,
-        priority: u8,
-        number: u32,
-        parcel: u32,
-    },
+pub struct Fields {
+    pub operation: u8,
+    pub object: u8,
+    pub priority: u8,
+    pub number: u32,
+    pub parcel: u32,
 }
 
 // How far a block is turned: how many lines or records are done, the place after them, the place after what is put out of them, and whether
