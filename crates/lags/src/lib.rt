@@ -1,21 +1,22 @@
-// The lane report of a table and of its threads' accounts, put into a lent buffer. `lanes/specs` says what a lag is and what is printed.
+// The lane report of a table and of its threads' accounts, put behind what a buffer has. `lanes/specs` says what a lag is and what is printed.
 #![tactic(auto)]
 
-ghost use Rattle.std.specs.Prelude.{if◌then◌else◌, [], ◌≡◌, ◌+◌, ◌*◌, ◌≤◌, ◌<◌, length};
+ghost use Rattle.std.specs.Prelude.{if◌then◌else◌, [], ◌≡◌, ◌++◌, ◌+◌, ◌*◌, ◌≤◌, ◌<◌, length};
 ghost use Rattle.std.proofs.Math.IntN.{sub_ℕ};
 ghost use Rattle.rules.specs.Board.{printer, most_ticks};
 ghost use Rattle.rules.specs.State.{at};
+ghost use Rattle.rules.specs.Sound.{Sound};
 ghost use Rattle.rules.specs.Lines.{ready, in_line};
 ghost use Rattle.rules.specs.Table.{decode};
 ghost use Rattle.text.specs.Text.{ascii, signed};
-ghost use Rattle.text.specs.Puts.{Puts};
 ghost use Rattle.fairness.specs.Run.{sum_turns};
 ghost use Rattle.lanes.specs.Lag.{sum_over, lag};
 ghost use Rattle.lanes.specs.Report.{most_charges, lane_of, report_text};
-ghost use Rattle.lanes.specs.Kept.{of, Kept};
-ghost use Rattle.lags.specs.Room.{SaysSound, lane_room, report_room};
+ghost use Rattle.lanes.specs.Kept.{of, Within};
+ghost use Rattle.lags.specs.Room.{lane_room, report_room};
 
-use rules::{THREADS, Thread};
+use buffer::Buffer;
+use rules::{TABLE, THREADS, Thread};
 
 // "charged ticks times the sum of the turns of its rank's ready threads at the end, less its own turn times all ticks charged to those threads"
 fn lag(charged: u64, turns: u64, turn: u64, all: u64) -> i64
@@ -41,27 +42,27 @@ struct Rank {
     charged: u64,
 }
 
-fn rank_of(table: &[u8], accounts: &[u64], priority: u8) -> Rank
-    requires says_sound { SaysSound table.now }
-    requires kept { Kept 0 accounts.now }
+fn rank_of(table: &[u8; TABLE], accounts: &[u64; THREADS], priority: u8) -> Rank
+    requires sound { Sound (decode printer table.now) }
+    requires within { Within 0 accounts.now }
     ensures turns { (result.turns ≤ printer.threads * most_ticks) × (result.turns ≡ sum_turns priority (decode printer table.now).threads) }
     ensures charged { (result.charged ≤ printer.threads * most_charges) × (result.charged ≡ sum_over priority (of accounts.now) 0 (decode printer table.now).threads) }
 {
     let mut turns: u64 = 0;
     let mut charged: u64 = 0;
-    for j in 0..THREADS {
+    for (j, &own) in accounts.iter().enumerate() {
         let th = records::load_thread(table, j);
         turns += counted(th, priority, th.turn as u64);
-        charged += counted(th, priority, accounts[j]);
+        charged += counted(th, priority, own);
     }
     Rank { turns, charged }
 }
 
 // "A thread not ready at the end has lag 0."
-fn lag_of(table: &[u8], accounts: &[u64], i: usize) -> i64
+fn lag_of(table: &[u8; TABLE], accounts: &[u64; THREADS], i: usize) -> i64
     requires i_lt_threads { i < printer.threads }
-    requires says_sound { SaysSound table.now }
-    requires kept { Kept 0 accounts.now }
+    requires sound { Sound (decode printer table.now) }
+    requires within { Within 0 accounts.now }
     ensures value { result ≡ lag (of accounts.now) (decode printer table.now) i }
     ensures room { length (signed result) ≤ 19 }
 {
@@ -74,49 +75,56 @@ fn lag_of(table: &[u8], accounts: &[u64], i: usize) -> i64
 }
 
 // The line of thread `i`, if it is in use.
-fn put_lane(table: &[u8], accounts: &[u64], i: usize, out: &mut [u8], to: usize) -> usize
+fn put_lane<const N: usize>(
+    table: &[u8; TABLE],
+    accounts: &[u64; THREADS],
+    i: usize,
+    out: &mut Buffer<N>,
+)
     requires i_lt_threads { i < printer.threads }
-    requires says_sound { SaysSound table.now }
-    requires kept { Kept 0 accounts.now }
-    requires lane_room_in_bounds { to + lane_room ≤ length out.old }
-    ensures line { Puts out.old to (lane_of (of accounts.now) (decode printer table.now) i (at (decode printer table.now).threads i)) out.new result }
-    ensures room { result ≤ to + lane_room }
+    requires sound { Sound (decode printer table.now) }
+    requires within { Within 0 accounts.now }
+    requires lane_room_in_bounds { length out.old + lane_room ≤ N }
+    ensures line { out.new ≡ out.old ++ lane_of (of accounts.now) (decode printer table.now) i (at (decode printer table.now).threads i) }
+    ensures room { length out.new ≤ length out.old + lane_room }
 {
     let th = records::load_thread(table, i);
     if !th.used {
-        return to;
+        return;
     }
     let own = lag_of(table, accounts, i);
-    let a = text::put_field(out, to, i as u64, b' ');
-    let b = text::put_field(out, a, accounts[i], b' ');
-    let c = text::put_signed(out, b, own);
-    text::put_byte(out, c, b'\n')
+    text::put_field(out, i as u64, b' ');
+    text::put_field(out, accounts[i], b' ');
+    text::put_signed(out, own);
+    out.push(b'\n');
 }
 
 // The line that comes first where whole records are left.
-fn put_stopped(stopped: bool, out: &mut [u8]) -> usize
-    requires { report_room ≤ length out.old }
-    ensures puts { Puts out.old 0 (if stopped then ascii "stopped\n" else []) out.new result }
-    ensures upper_bound { result ≤ 8 }
+fn put_stopped<const N: usize>(stopped: bool, out: &mut Buffer<N>)
+    requires { length out.old + report_room ≤ N }
+    ensures puts { out.new ≡ out.old ++ (if stopped then ascii "stopped\n" else []) }
+    ensures upper_bound { length out.new ≤ length out.old + 8 }
 {
     if stopped {
-        text::put_bytes(out, 0, b"stopped\n")
-    } else {
-        0
+        out.extend(b"stopped\n");
     }
 }
 
-// The whole report goes to the start of `out`; the place after it is given back.
-pub fn put_report(table: &[u8], accounts: &[u64], stopped: bool, out: &mut [u8]) -> usize
-    requires says_sound { SaysSound table.now }
-    requires kept { Kept 0 accounts.now }
-    requires report_room_in_bounds { report_room ≤ length out.old }
-    ensures text { Puts out.old 0 (report_text stopped (of accounts.now) (decode printer table.now)) out.new result }
-    ensures room { result ≤ report_room }
+// The whole report goes to `out`.
+pub fn put_report<const N: usize>(
+    table: &[u8; TABLE],
+    accounts: &[u64; THREADS],
+    stopped: bool,
+    out: &mut Buffer<N>,
+)
+    requires sound { Sound (decode printer table.now) }
+    requires within { Within 0 accounts.now }
+    requires report_room_in_bounds { length out.old + report_room ≤ N }
+    ensures text { out.new ≡ out.old ++ report_text stopped (of accounts.now) (decode printer table.now) }
+    ensures room { length out.new ≤ length out.old + report_room }
 {
-    let mut next = put_stopped(stopped, out);
+    put_stopped(stopped, out);
     for i in 0..THREADS {
-        next = put_lane(table, accounts, i, out, next);
+        put_lane(table, accounts, i, out);
     }
-    next
 }

@@ -1,24 +1,17 @@
--- The bytes that are held, and what a read put behind them, are the first of the block: together they are all that is at hand. What stands at the
--- front already may be stored there. Assumes nothing.
+-- The bytes that are held, and what a read put behind them, are all that is at hand. Assumes nothing.
 use mathlib.Core.Path.{◌≡◌, sym, ap, ◌∙◌}
 use mathlib.Core.List.{List, ◌++◌}
-use Prim.Native.Nat.{ℕ, ◌+◌, ◌-◌, ◌≤◌}
+use Prim.Native.Nat.{ℕ, ◌+◌}
 use native.Mathlib.Omega.{arith}
 use lib.ListN.{length, take, drop, take-append-drop, length-drop}
-use lib.Seq.{sets, sets-eq, take-take, length-take-le}
 
--- so many bytes are held and stay, and so many are at hand after the read
-module _ (block block' : List ℕ) (held n : ℕ) (stay : take held block' ≡ take held block) (behind : held ≤ n) (inside : n ≤ length block') where
+-- the bytes that are held stay, and n come
+module _ (held block : List ℕ) (n : ℕ) (stay : take (length held) block ≡ held) (more : length block ≡ length held + n) where
   abbrev pub part : List ℕ
-  part = drop held (take n block')
+  part = drop (length held) block
 
-  pub come : take held block ++ part ≡ take n block'
-  come = ap (λ l. l ++ part) (sym stay ∙ sym (take-take held n block' behind)) ∙ take-append-drop held (take n block')
+  pub come : held ++ part ≡ block
+  come = ap (λ l. l ++ part) (sym stay) ∙ take-append-drop (length held) block
 
-  pub part_size : length part ≡ n - held
-  part_size = length-drop held (take n block') ∙ ap (λ k. k - held) (length-take-le n block' inside)
-
-pub stays : (block : List ℕ) (n : ℕ) → n ≤ length block → sets block 0 (take n block) ≡ block
-stays block n h =
-    let size : 0 + length (take n block) ≡ n = omega (arith, length-take-le n block h) in
-    sets-eq (take n block) block 0 (omega arith) ∙ ap (λ k. take n block ++ drop k block) size ∙ take-append-drop n block
+  pub part_size : length part ≡ n
+  part_size = omega (arith, length-drop (length held) block, more)

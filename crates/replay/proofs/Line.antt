@@ -1,5 +1,5 @@
 -- The line of a record, from what the door answered. Assumes nothing.
-use mathlib.Core.Path.{◌≡◌}
+use mathlib.Core.Path.{◌≡◌, refl}
 use mathlib.Core.List.{List}
 use Prim.Native.Nat.{ℕ}
 use lib.IntN.{ℤ}
@@ -8,10 +8,9 @@ use Rattle.rules.specs.Table.{word_at, decode}
 use Rattle.rules.specs.Door.{Doored}
 use Rattle.rules.specs.Trace.{served, trace_line}
 use Rattle.text.specs.Text.{line_text}
-use Rattle.text.specs.Puts.{Puts}
 
--- a line that is put with the door's code, the area's value and the table's running thread is the trace's
-pub line_put : (b : Board) (n : ℕ) (d : Doored) (out : List ℕ) (to : ℕ) (out' : List ℕ) (next : ℕ) (code : ℤ) (value running : ℕ) (area table : List ℕ)
+-- a line with the door's code, the area's value and the table's running thread is the trace's
+pub line_same : (b : Board) (n : ℕ) (d : Doored) (code : ℤ) (value running : ℕ) (area table : List ℕ)
     → code ≡ d.code → area ≡ d.area → value ≡ word_at area 4 → table ≡ d.table → running ≡ (decode b table).running
-    → Puts out to (line_text (served n code value running)) out' next → Puts out to (line_text (trace_line b n d)) out' next
-line_put b n d out to out' next code value running area table ec ea ev et er p = rw (← ec, ← ea, ← et, ← ev, ← er) p
+    → line_text (served n code value running) ≡ line_text (trace_line b n d)
+line_same b n d code value running area table ec ea ev et er = rw (ec, er, et, ev, ea) refl

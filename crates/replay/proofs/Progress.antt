@@ -12,28 +12,27 @@ use Rattle.rules.specs.Requests.{request_length}
 use Rattle.rules.specs.Door.{door, table_after}
 use Rattle.rules.specs.Trace.{records, clean_area, cleanly, trace_line, trace_from, whole_records}
 use Rattle.text.specs.Text.{line_text, trace_text}
-use Rattle.text.specs.Puts.{Puts, line_room}
-use Rattle.text.proofs.Putting.{◌followed_by◌}
+use Rattle.text.specs.Rooms.{line_room}
 use Rattle.replay.specs.Replay.{Replayed}
 
 -- what `left` records from place `at` on still make of a table and still print
 abbrev rest : List ℕ → ℕ → ℕ → List (List ℕ)
 rest input at left = records left (drop at input)
 
-pub record Progress (t₀ input : List ℕ) (first : ℕ) (out₀ t out : List ℕ) (at number next : ℕ) : Type 0 where
+pub record Progress (t₀ input : List ℕ) (first : ℕ) (out₀ t out : List ℕ) (at number : ℕ) : Type 0 where
   pub taken : ℕ
   pub left : ℕ
   pub text : List ℕ
   pub all : taken + left ≡ length input / request_length
   pub place : at ≡ taken * request_length
   pub count : number ≡ first + taken
-  pub room : next ≤ taken * line_room
+  pub room : length out ≤ length out₀ + taken * line_room
   pub table : table_after printer t₀ (map cleanly (whole_records input)) ≡ table_after printer t (map cleanly (rest input at left))
-  pub lines : Puts out₀ 0 text out next
+  pub lines : out ≡ out₀ ++ text
   pub printed : trace_text (trace_from printer first t₀ (whole_records input)) ≡ text ++ trace_text (trace_from printer number t (rest input at left))
 
 module _ (t₀ input : List ℕ) (first : ℕ) (out₀ : List ℕ) where
-  pub started : Progress t₀ input first out₀ t₀ out₀ 0 first 0
+  pub started : Progress t₀ input first out₀ t₀ out₀ 0 first
   started = record {
     taken = 0;
     left = length input / request_length;
@@ -43,11 +42,11 @@ module _ (t₀ input : List ℕ) (first : ℕ) (out₀ : List ℕ) where
     count = omega arith;
     room = omega arith;
     table = refl;
-    lines = record { bytes = refl; place = refl };
+    lines = sym (append-nil out₀);
     printed = refl;
   }
 
-  module _ {t out : List ℕ} {at number next : ℕ} (p : Progress t₀ input first out₀ t out at number next) where
+  module _ {t out : List ℕ} {at number : ℕ} (p : Progress t₀ input first out₀ t out at number) where
     -- a record that is whole is one of those that are left
     some_left : at + request_length ≤ length input → 1 ≤ p.left
     some_left h = omega (arith, p.all, p.place)
@@ -56,12 +55,12 @@ module _ (t₀ input : List ℕ) (first : ℕ) (out₀ : List ℕ) where
     unfolding records
     behind l e = rw (e, drop-drop request_length at input)
 
-    advanced : (l : ℕ) → p.left ≡ suc l → (t' out' : List ℕ) (next' : ℕ)
+    advanced : (l : ℕ) → p.left ≡ suc l → (t' out' : List ℕ)
         → t' ≡ (door printer t (take request_length (drop at input)) clean_area).table
-        → Puts out next (line_text (trace_line printer number (door printer t (take request_length (drop at input)) clean_area))) out' next'
-        → next' ≤ next + line_room → Progress t₀ input first out₀ t' out' (at + request_length) (number + 1) next'
+        → out' ≡ out ++ line_text (trace_line printer number (door printer t (take request_length (drop at input)) clean_area))
+        → length out' ≤ length out + line_room → Progress t₀ input first out₀ t' out' (at + request_length) (number + 1)
     unfolding table_after trace_from
-    advanced l e t' out' next' et q r =
+    advanced l e t' out' et q r =
         let d = door printer t (take request_length (drop at input)) clean_area in
         record {
           taken = p.taken + 1;
@@ -72,7 +71,7 @@ module _ (t₀ input : List ℕ) (first : ℕ) (out₀ : List ℕ) where
           count = omega (arith, p.count);
           room = omega (arith, p.room);
           table = p.table ∙ ap (λ rs. table_after printer t (map cleanly rs)) (behind l e) ∙ ap (λ x. table_after printer x (map cleanly (rest input (at + request_length) l))) (sym et);
-          lines = p.lines followed_by q;
+          lines = q ∙ ap (λ o. o ++ line_text (trace_line printer number d)) p.lines ∙ append_assoc out₀ p.text (line_text (trace_line printer number d));
           printed =
               p.printed
               ∙ ap (λ rs. p.text ++ trace_text (trace_from printer number t rs)) (behind l e)
@@ -83,10 +82,10 @@ module _ (t₀ input : List ℕ) (first : ℕ) (out₀ : List ℕ) where
 
     -- what a record that stands at place i makes of the progress
     abbrev Turn : ℕ → Type 0
-    Turn i = (t' out' : List ℕ) (next' : ℕ)
+    Turn i = (t' out' : List ℕ)
         → t' ≡ (door printer t (take request_length (drop i input)) clean_area).table
-        → Puts out next (line_text (trace_line printer number (door printer t (take request_length (drop i input)) clean_area))) out' next'
-        → next' ≤ next + line_room → Progress t₀ input first out₀ t' out' (i + request_length) (number + 1) next'
+        → out' ≡ out ++ line_text (trace_line printer number (door printer t (take request_length (drop i input)) clean_area))
+        → length out' ≤ length out + line_room → Progress t₀ input first out₀ t' out' (i + request_length) (number + 1)
 
     pub turned : (i : ℕ) → i ≡ at → at + request_length ≤ length input → Turn i
     turned i e h = subst Turn (sym e) (go p.left refl)
@@ -99,12 +98,12 @@ module _ (t₀ input : List ℕ) (first : ℕ) (out₀ : List ℕ) where
     none_left : length input < at + request_length → p.left ≡ 0
     none_left h = omega (arith, p.all, p.place)
 
-    pub ended : length input < at + request_length → Replayed t₀ input first out₀ t out next
+    pub ended : length input < at + request_length → Replayed t₀ input first out₀ t out
     unfolding table_after trace_from records
     ended h =
         let e : rest input at p.left ≡ [] = ap (rest input at) (none_left h) in
         record {
           table = sym (p.table ∙ ap (λ rs. table_after printer t (map cleanly rs)) e);
-          lines = rw (p.printed ∙ ap (λ rs. p.text ++ trace_text (trace_from printer number t rs)) e ∙ append-nil p.text) p.lines;
+          lines = p.lines ∙ ap (λ l. out₀ ++ l) (sym (p.printed ∙ ap (λ rs. p.text ++ trace_text (trace_from printer number t rs)) e ∙ append-nil p.text));
           room = omega (arith, p.room, p.all);
         }

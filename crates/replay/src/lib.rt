@@ -1,18 +1,18 @@
-// A trace, part by part: whole records are put to the door one after the other, and what is printed of them is put into a lent buffer. What
+// A trace, part by part: whole records are put to the door one after the other, and what is printed of them is put behind what a buffer has. What
 // is left over of a part goes before the next one. `specs/Parts.antt` says where a trace stands between two parts.
 #![tactic(auto)]
 
-ghost use Rattle.std.specs.Prelude.{◌≡◌, ◌+◌, ◌*◌, ◌/◌, ◌%◌, ◌≤◌, ◌<◌, ◌^◌, length, take, drop};
-ghost use Rattle.std.proofs.lemmas.List.Edits.{sets};
-ghost use Rattle.rules.specs.Board.{printer, table_length};
+ghost use Rattle.std.specs.Prelude.{◌≡◌, ◌+◌, ◌*◌, ◌/◌, ◌≤◌, ◌<◌, ◌^◌, ◌++◌, length};
+ghost use Rattle.rules.specs.Board.{printer};
 ghost use Rattle.rules.specs.Requests.{request_length};
 ghost use Rattle.rules.specs.Door.{door, fresh_table};
 ghost use Rattle.rules.specs.Trace.{clean_area, trace_line, short_line};
 ghost use Rattle.text.specs.Text.{line_text, trace_text};
-ghost use Rattle.text.specs.Puts.{Puts, line_room, short_room};
+ghost use Rattle.text.specs.Rooms.{line_room, short_room};
 ghost use Rattle.parts.specs.LeftOver.{left_over};
 ghost use Rattle.replay.specs.Replay.{Replayed};
 
+use buffer::Buffer;
 use reader::Read;
 
 // A fresh table.
@@ -29,91 +29,75 @@ pub fn fresh() -> [u8; rules::TABLE]
     t
 }
 
-// The record that starts at `at` is served, and its line goes to `out` from place `to` on; the place after it is given back.
-fn serve_record(
-    table: &mut [u8],
-    input: &[u8],
-    at: usize,
+// A record is served, and its line goes to `out`.
+fn serve_record<const M: usize>(
+    table: &mut [u8; rules::TABLE],
+    request: &[u8],
     number: u64,
-    out: &mut [u8],
-    to: usize,
-) -> usize
-    requires table_len { length table.old ≡ table_length printer }
-    requires request_length_in_bounds { at + request_length ≤ length input.now }
-    requires line_room_in_bounds { to + line_room ≤ length out.old }
-    ensures table { table.new ≡ (door printer table.old (take request_length (drop at input.now)) clean_area).table }
-    ensures line { Puts out.old to (line_text (trace_line printer number (door printer table.old (take request_length (drop at input.now)) clean_area))) out.new result }
-    ensures room { result ≤ to + line_room }
+    out: &mut Buffer<M>,
+)
+    requires request_len { length request.now ≡ request_length }
+    requires line_room_in_bounds { length out.old + line_room ≤ M }
+    ensures table { table.new ≡ (door printer table.old request.now clean_area).table }
+    ensures line { out.new ≡ out.old ++ line_text (trace_line printer number (door printer table.old request.now clean_area)) }
+    ensures room { length out.new ≤ length out.old + line_room }
 {
     let mut area = [0u8; rules::AREA];
-    let code = kernel::speltmallet_door(table, &input[at..at + rules::REQUEST], &mut area);
+    let table = &mut table[..];
+    let code = kernel::speltmallet_door(table, request, &mut area);
     let value = words::word_at(&area, rules::VALUE_FROM);
     let running = records::running(table);
-    text::put_line(out, to, number, code, value, running as u8)
+    text::put_line(out, number, code, value, running as u8);
 }
 
-// The whole records of `input` are served, and their lines, numbered from `first` on, go to the start of `out`; the place after them is
-// given back.
-fn replay(table: &mut [u8], input: &[u8], first: u64, out: &mut [u8]) -> usize
-    requires table_len { length table.old ≡ table_length printer }
+// The whole records of `input` are served, and their lines, numbered from `first` on, go to `out`.
+fn replay<const M: usize>(
+    table: &mut [u8; rules::TABLE],
+    input: &[u8],
+    first: u64,
+    out: &mut Buffer<M>,
+)
     requires input_bound { first + length input.now < 2 ^ 64 }
-    requires line_room_in_bounds { length input.now / request_length * line_room ≤ length out.old }
-    ensures { Replayed table.old input.now first out.old table.new out.new result }
+    requires line_room_in_bounds { length out.old + length input.now / request_length * line_room ≤ M }
+    ensures { Replayed table.old input.now first out.old table.new out.new }
 {
     let mut at: usize = 0;
     let mut number: u64 = first;
-    let mut next: usize = 0;
-    loop {
-        let Read::Record { at: record } = reader::read_from(input, at) else {
-            break;
-        };
-        next = serve_record(table, input, record, number, out, next);
-        number += 1;
+    while let Read::Record { at: record } = reader::read_from(input, at) {
         at = record + rules::REQUEST;
+        serve_record(table, &input[record..at], number, out);
+        number += 1;
     }
-    next
 }
 
-// Where a trace stands after a part: the number of the next record, how many bytes are held at the front of the block, and the place after
-// the part's lines.
-#[derive(Clone, Copy)]
-pub struct Served {
-    pub number: u64,
-    pub held: usize,
-    pub next: usize,
-}
-
-// The first `n` bytes of the block have come, and the next record has number `number`: the whole records among them are served, their lines go
-// to the start of `out`, and what is left over moves to the front of the block.
-pub fn serve(table: &mut [u8], number: u64, block: &mut [u8], n: usize, out: &mut [u8]) -> Served
-    requires table_len { length table.old ≡ table_length printer }
-    requires n_in_bounds { n ≤ length block.old }
-    requires n_bound { number + n < 2 ^ 64 }
-    requires line_room_in_bounds { n / request_length * line_room ≤ length out.old }
-    ensures replayed { Replayed table.old (take n block.old) number out.old table.new out.new result.next }
-    ensures number { result.number ≡ number + n / request_length }
-    ensures held { result.held ≡ n % request_length }
-    ensures block { block.new ≡ sets block.old 0 (left_over (take n block.old)) }
+// The bytes of the block have come, and the next record has number `number`: the whole records among them are served, their lines go to `out`, and
+// what is left over stays in the block. The number of the record after them is given back.
+pub fn serve<const N: usize, const M: usize>(
+    table: &mut [u8; rules::TABLE],
+    number: u64,
+    block: &mut Buffer<N>,
+    out: &mut Buffer<M>,
+) -> u64
+    requires number_bound { number + length block.old < 2 ^ 64 }
+    requires line_room_in_bounds { length out.old + length block.old / request_length * line_room ≤ M }
+    ensures replayed { Replayed table.old block.old number out.old table.new out.new }
+    ensures number { result ≡ number + length block.old / request_length }
+    ensures block { block.new ≡ left_over block.old }
 {
-    let next = replay(table, &block[..n], number, out);
+    replay(table, block.as_slice(), number, out);
+    let n = block.len();
     let records = n / rules::REQUEST;
-    let held = parts::keep(block, records * rules::REQUEST, n);
-    Served {
-        number: number + records as u64,
-        held,
-        next,
-    }
+    block.drop_front(records * rules::REQUEST);
+    number + records as u64
 }
 
-// The input has ended with so many bytes held: the line that says so, if there are any, goes to the start of `out`; the place after it is
-// given back.
-pub fn finish(held: usize, out: &mut [u8]) -> usize
-    requires { short_room ≤ length out.old }
-    ensures line { Puts out.old 0 (trace_text (short_line held)) out.new result }
-    ensures room { result ≤ short_room }
+// The input has ended with so many bytes held: the line that says so, if there are any, goes to `out`.
+pub fn finish<const M: usize>(held: usize, out: &mut Buffer<M>)
+    requires { length out.old + short_room ≤ M }
+    ensures line { out.new ≡ out.old ++ trace_text (short_line held) }
+    ensures room { length out.new ≤ length out.old + short_room }
 {
-    if held == 0 {
-        return 0;
+    if held != 0 {
+        text::put_short(out, held);
     }
-    text::put_short(out, 0, held)
 }

@@ -2,77 +2,73 @@
 // standard error, with the program's name before it.
 #![tactic(auto)]
 
-ghost use Rattle.std.specs.Prelude.{◌≤◌, ◌≡◌, length, take};
+ghost use Rattle.std.specs.Prelude.{◌≡◌, ◌+◌, ◌≤◌, length, take, IfOk, OnErr};
 
-use std::io::{Print, Read, Stderr, Stdin, Stdout};
+use buffer::Buffer;
+use std::io::{Print, Read, Result, Stderr, Stdin, Stdout};
 
 // How many reads a program makes at the most: more than any machine lives for.
 pub const READS: u64 = 1125899906842624;
 
-// A program's three streams, as its `main` is given them.
+// A program's three streams, as its `main` is given them, and its name.
 #[derive(Clone, Copy)]
 pub struct Streams {
-    pub input: Stdin,
-    pub output: Stdout,
-    pub errors: Stderr,
+    input: Stdin,
+    output: Stdout,
+    errors: Stderr,
+    name: &'static [u8],
 }
 
-// What a read leaves: so many bytes are at hand, and whether it failed.
-#[derive(Clone, Copy)]
-pub struct Come {
-    pub n: usize,
-    pub failed: bool,
-}
-
-// The streams of the process.
-pub fn of(rt: &HostRuntime) -> Streams {
-    Streams {
-        input: rt.stdin(),
-        output: rt.stdout(),
-        errors: rt.stderr(),
+impl Streams {
+    // The streams of the process, for the program of that name.
+    pub fn of(rt: &HostRuntime, name: &'static [u8]) -> Streams {
+        Streams {
+            input: rt.stdin(),
+            output: rt.stdout(),
+            errors: rt.stderr(),
+            name,
+        }
     }
-}
 
-// A program's name and what failed, on standard error.
-fn say(stdio: Streams, name: &[u8], what: &[u8]) {
-    let _ = stdio.errors.write_all(name);
-    let _ = stdio.errors.write_all(what);
-}
-
-// One read of standard input, behind the bytes of the block that are held: these stay.
-pub fn read_behind(stdio: Streams, name: &[u8], block: &mut [u8], held: usize) -> Come
-    requires { held ≤ length block.old }
-    ensures within { (held ≤ result.n) × (result.n ≤ length block.new) }
-    ensures held { take held block.new ≡ take held block.old }
-{
-    let mut input = stdio.input;
-    let (k, failed) = match input.read(&mut block[held..]) {
-        Ok(k) => (k, false),
-        Err(_) => (0, true),
-    };
-    if failed {
-        say(stdio, name, b": standard input can't be read\n");
+    // One read of standard input, behind the bytes that the block holds: these stay. How many came is given back, and 0 at the end.
+    pub fn read_behind<const N: usize>(&self, block: &mut Buffer<N>) -> Result<usize>
+        ensures come { IfOk result (λ n. length block.new ≡ length block.old + n) }
+        ensures held { take (length block.old) block.new ≡ block.old }
+        ensures failed { OnErr result (block.new ≡ block.old) }
+        ensures room { length block.new ≤ N }
+    {
+        let mut part = [0u8; N];
+        let held = block.len();
+        let mut input = self.input;
+        match input.read(&mut part[..N - held]) {
+            Ok(n) => {
+                block.extend(&part[..n]);
+                Ok(n)
+            }
+            Err(why) => {
+                self.say_failure(b": standard input can't be read\n");
+                Err(why)
+            }
+        }
     }
-    Come {
-        n: held + k,
-        failed,
-    }
-}
 
-// The first `n` bytes go to standard output: whether they did.
-pub fn write_front(stdio: Streams, name: &[u8], bytes: &[u8], n: usize) -> bool
-    requires { n ≤ length bytes.now }
-{
-    if stdio.output.write_all(&bytes[..n]).is_ok() {
-        return true;
+    // The bytes go to standard output.
+    pub fn write(&self, bytes: &[u8]) -> Result<()> {
+        let written = self.output.write_all(bytes);
+        if written.is_err() {
+            self.say_failure(b": standard output can't be written\n");
+        }
+        written
     }
-    say(stdio, name, b": standard output can't be written\n");
-    false
-}
 
-// The first `n` bytes go to standard error.
-pub fn say_front(stdio: Streams, bytes: &[u8], n: usize)
-    requires { n ≤ length bytes.now }
-{
-    let _ = stdio.errors.write_all(&bytes[..n]);
+    // The bytes go to standard error.
+    pub fn say(&self, bytes: &[u8]) {
+        let _ = self.errors.write_all(bytes);
+    }
+
+    // The program's name and what failed, on standard error.
+    fn say_failure(&self, what: &[u8]) {
+        self.say(self.name);
+        self.say(what);
+    }
 }

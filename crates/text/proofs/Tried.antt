@@ -5,7 +5,7 @@ use lib.ListN.{length}
 use Rattle.rules.proofs.Computing.{behind_the_door}
 use Rattle.rules.specs.Trace.{served, short, records, trace_from, trace}
 use Rattle.text.specs.Text.{ascii, digits, decimal, signed, line_text}
-use Rattle.text.specs.Puts.{line_room, short_room}
+use Rattle.text.specs.Rooms.{line_room, short_room}
 use Rattle.text.specs.Example.{ExampleRun}
 
 pub example_run : ExampleRun

@@ -1,4 +1,4 @@
 -- What the trace program prints.
 pub mod Text
-pub mod Puts
+pub mod Rooms
 pub mod Example

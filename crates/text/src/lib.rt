@@ -1,86 +1,84 @@
-// Texts that programs print, put into a lent buffer one after the other: bytes, numbers in decimal, and the lines of a trace. Each function
-// puts its text from place `at` on, leaves every other byte, and answers the place after it.
+// Texts that programs print, put into a buffer one behind the other: numbers in decimal, and the lines of a trace. Each function puts its text
+// behind what the buffer has.
 #![tactic(auto)]
 
-ghost use Rattle.std.specs.Prelude.{◌≡◌, [], ◌∷◌, ◌++◌, ◌+◌, ◌≤◌, ◌<◌, length};
+ghost use Rattle.std.specs.Prelude.{◌≡◌, [], ◌∷◌, ◌++◌, ◌+◌, ◌≤◌, ◌<◌, length, take};
 ghost use Rattle.rules.specs.Trace.{served, short};
 ghost use Rattle.text.specs.Text.{decimal, signed, line_text};
-ghost use Rattle.text.specs.Puts.{Puts, line_room, short_room};
+ghost use Rattle.text.specs.Rooms.{line_room, short_room};
 
-pub fn put_byte(out: &mut [u8], at: usize, byte: u8) -> usize
-    requires { at < length out.old }
-    ensures { Puts out.old at (byte ∷ []) out.new result }
-{
-    out[at] = byte;
-    at + 1
-}
+use buffer::Buffer;
 
-// The bytes of another text.
-pub fn put_bytes(out: &mut [u8], at: usize, bytes: &[u8]) -> usize
-    requires { at + length bytes.now ≤ length out.old }
-    ensures { Puts out.old at bytes.now out.new result }
-{
-    for i in 0..bytes.len() {
-        out[at + i] = bytes[i];
-    }
-    at + bytes.len()
-}
-
-// A number in decimal: the digits before the last, then the last.
-pub fn put_number(out: &mut [u8], at: usize, n: u64) -> usize
-    requires { at + length (decimal n) ≤ length out.old }
-    ensures { Puts out.old at (decimal n) out.new result }
+// The digits of a number at the front of a place that has room for every one: those before the last, then the last. How many they are is given back.
+fn put_digits(digits: &mut [u8; 20], n: u64) -> usize
+    ensures value { result ≡ length (decimal n) }
+    ensures digits { take result digits.new ≡ decimal n }
 {
     if n < 10 {
-        put_byte(out, at, b'0' + n as u8)
+        digits[0] = b'0' + n as u8;
+        1
     } else {
-        let last = put_number(out, at, n / 10);
-        put_byte(out, last, b'0' + (n % 10) as u8)
+        let last = put_digits(digits, n / 10);
+        digits[last] = b'0' + (n % 10) as u8;
+        last + 1
     }
+}
+
+// A number in decimal.
+pub fn put_number<const N: usize>(out: &mut Buffer<N>, n: u64)
+    requires { length out.old + length (decimal n) ≤ N }
+    ensures { out.new ≡ out.old ++ decimal n }
+{
+    let mut digits = [0u8; 20];
+    let end = put_digits(&mut digits, n);
+    out.extend(&digits[..end]);
 }
 
 // A number and the byte after it.
-pub fn put_field(out: &mut [u8], at: usize, n: u64, after: u8) -> usize
-    requires { at + length (decimal n) < length out.old }
-    ensures puts { Puts out.old at (decimal n ++ (after ∷ [])) out.new result }
-    ensures value { result ≡ at + length (decimal n) + 1 }
+pub fn put_field<const N: usize>(out: &mut Buffer<N>, n: u64, after: u8)
+    requires { length out.old + length (decimal n) < N }
+    ensures { out.new ≡ out.old ++ (decimal n ++ after ∷ []) }
 {
-    let end = put_number(out, at, n);
-    put_byte(out, end, after)
+    put_number(out, n);
+    out.push(after);
 }
 
-// A number with its sign. −2^63 has no other side in an i64, so a negative number goes by its complement, which is one less.
-pub fn put_signed(out: &mut [u8], at: usize, n: i64) -> usize
-    requires { at + length (signed n) ≤ length out.old }
-    ensures { Puts out.old at (signed n) out.new result }
+// A number with its sign. −2^63 has no other side in an i64, so a negative number goes by its size, which is unsigned.
+pub fn put_signed<const N: usize>(out: &mut Buffer<N>, n: i64)
+    requires { length out.old + length (signed n) ≤ N }
+    ensures { out.new ≡ out.old ++ signed n }
 {
     if n < 0 {
-        let first = put_byte(out, at, b'-');
-        put_number(out, first, (!n as u64) + 1)
-    } else {
-        put_number(out, at, n as u64)
+        out.push(b'-');
     }
+    put_number(out, n.unsigned_abs());
 }
 
 // The line of a record that was served.
-pub fn put_line(out: &mut [u8], at: usize, number: u64, code: i32, value: u32, running: u8) -> usize
-    requires { at + line_room ≤ length out.old }
-    ensures puts { Puts out.old at (line_text (served number code value running)) out.new result }
-    ensures upper_bound { result ≤ at + line_room }
+pub fn put_line<const N: usize>(
+    out: &mut Buffer<N>,
+    number: u64,
+    code: i32,
+    value: u32,
+    running: u8,
+)
+    requires { length out.old + line_room ≤ N }
+    ensures puts { out.new ≡ out.old ++ line_text (served number code value running) }
+    ensures upper_bound { length out.new ≤ length out.old + line_room }
 {
-    let a = put_field(out, at, number, b' ');
-    let b = put_signed(out, a, code as i64);
-    let c = put_byte(out, b, b' ');
-    let d = put_field(out, c, value as u64, b' ');
-    put_field(out, d, running as u64, b'\n')
+    put_field(out, number, b' ');
+    put_signed(out, code as i64);
+    out.push(b' ');
+    put_field(out, value as u64, b' ');
+    put_field(out, running as u64, b'\n');
 }
 
 // The last line, of left-over bytes.
-pub fn put_short(out: &mut [u8], at: usize, n: usize) -> usize
-    requires { at + short_room ≤ length out.old }
-    ensures puts { Puts out.old at (line_text (short n)) out.new result }
-    ensures upper_bound { result ≤ at + short_room }
+pub fn put_short<const N: usize>(out: &mut Buffer<N>, n: usize)
+    requires { length out.old + short_room ≤ N }
+    ensures puts { out.new ≡ out.old ++ line_text (short n) }
+    ensures upper_bound { length out.new ≤ length out.old + short_room }
 {
-    let first = put_bytes(out, at, b"short ");
-    put_field(out, first, n as u64, b'\n')
+    out.extend(b"short ");
+    put_field(out, n as u64, b'\n');
 }

@@ -1,5 +1,5 @@
 -- `lags::lag_of` meets its contract: of a ready thread it is the difference of the two products over its own rank. Assumes nothing.
-use mathlib.Core.Bool.{true, false}
+use mathlib.Core.Bool.{true}
 use mathlib.Core.Path.{◌≡◌, sym, ap, ◌∙◌}
 use Prim.Native.Nat.{◌*◌}
 use native.Mathlib.Omega.{arith}
@@ -10,7 +10,7 @@ use Rattle.rules.specs.Board.{printer}
 use Rattle.rules.specs.State.{at, is_ready}
 use Rattle.rules.specs.Table.{decode}
 use Rattle.laws.proofs.Lines.{ready_used}
-use Rattle.layout.proofs.Boards.{printer_long, said_printer}
+use Rattle.layout.proofs.Boards.{said_printer}
 use Rattle.text.proofs.Decimal.{decimal_room}
 use Rattle.fairness.specs.Run.{sum_turns}
 use Rattle.lanes.specs.Lag.{sum_over}
@@ -18,44 +18,33 @@ use Rattle.lanes.specs.Kept.{of}
 use Rattle.lags.proofs.Turned.{lag_unready, lag_ready}
 use Rattle.lags.proofs.lag_of.Goals as goal
 
-pub load_thread-th-requires : goal.load_thread-th-requires
-load_thread-th-requires c = (omega arith, printer_long c.requires.says_sound.0)
+pub returns-then-not-is_ready-clause-value : goal.returns-then-not-is_ready-clause-value
+returns-then-not-is_ready-clause-value c =
+    let s = decode printer c.args.table.now in
+    let own = c.load_thread-th.ensures _ (said_printer _ c.told-table) in
+    lag_unready (of c.args.accounts.now) s c.args.i (ap is_ready (sym own) ∙ sym c.is_ready.ensures ∙ c.if-not-is_ready.true)
 
-pub returns-then-not-is_ready : goal.returns-then-not-is_ready
-returns-then-not-is_ready c =
+pub returns-then-not-is_ready-clause-room : goal.returns-then-not-is_ready-clause-room
+returns-then-not-is_ready-clause-room c = omega (arith, decimal_room 0 {n = 0} (omega arith))
+
+pub lag-requires-clause-turn_le_most_ticks : goal.lag-requires-clause-turn_le_most_ticks
+lag-requires-clause-turn_le_most_ticks c =
     let i = c.args.i in
     let s = decode printer c.args.table.now in
-    let f = of c.args.accounts.now in
-    let own = c.load_thread-th.ensures _ (said_printer _ c.requires.says_sound.0) in
-    let unready : is_ready (at s.threads i) ≡ false = ap is_ready (sym own) ∙ sym c.is_ready.ensures ∙ c.if-not-is_ready.true in
-    record { value = lag_unready f s i unready; room = omega (arith, decimal_room 0 {n = 0} (omega arith)) }
-
-pub lag-requires : goal.lag-requires
-lag-requires c =
-    let i = c.args.i in
-    let s = decode printer c.args.table.now in
-    let f = of c.args.accounts.now in
-    let own = c.load_thread-th.ensures _ (said_printer _ c.requires.says_sound.0) in
+    let own = c.load_thread-th.ensures _ (said_printer _ c.told-table) in
     let ready : is_ready (at s.threads i) ≡ true = ap is_ready (sym own) ∙ sym c.is_ready.ensures ∙ c.if-not-is_ready.false in
-    let turn = (c.requires.says_sound.1.threads i (ready_used (at s.threads i) ready)).turn.1 in
-    let rank = c.rank_of-rank.ensures in
-    record {
-      charged_le_most_charges = (omega (arith, c.requires.kept.1 i), rank.turns.0);
-      turn_le_most_ticks = (rw own turn, rank.charged.0);
-    }
+    let turn = (c.requires.sound.threads i (ready_used (at s.threads i) ready)).turn.1 in
+    (rw own turn, c.rank_of-rank.ensures.charged.0)
 
-pub returns : goal.returns
-returns c =
+pub returns-clause-value : goal.returns-clause-value
+returns-clause-value c =
     let i = c.args.i in
     let s = decode printer c.args.table.now in
     let f = of c.args.accounts.now in
-    let own = c.load_thread-th.ensures _ (said_printer _ c.requires.says_sound.0) in
+    let own = c.load_thread-th.ensures _ (said_printer _ c.told-table) in
     let ready : is_ready (at s.threads i) ≡ true = ap is_ready (sym own) ∙ sym c.is_ready.ensures ∙ c.if-not-is_ready.false in
     let rank = c.rank_of-rank.ensures in
     let turns = rank.turns.1 ∙ ap (λ t. sum_turns t.priority s.threads) own in
     let charged = rank.charged.1 ∙ ap (λ t. sum_over t.priority f 0 s.threads) own in
     let same = to_z-of_z w64 c.lag.result (record { sfits = c.lag.type_inv }) in
-    record {
-      value = same ∙ c.lag.ensures.value ∙ (λ j. sub_ℕ (f i * turns j) ((own j).turn * charged j)) ∙ lag_ready f s i ready;
-      room = rw same c.lag.ensures.room;
-    }
+    same ∙ c.lag.ensures.value ∙ (λ j. sub_ℕ (f i * turns j) ((own j).turn * charged j)) ∙ lag_ready f s i ready

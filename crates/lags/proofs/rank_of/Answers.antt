@@ -9,7 +9,7 @@ use Rattle.rules.specs.Board.{printer}
 use Rattle.rules.specs.State.{at}
 use Rattle.rules.specs.Lines.{ready, in_line}
 use Rattle.rules.specs.Table.{decode}
-use Rattle.layout.proofs.Boards.{printer_long, said_printer}
+use Rattle.layout.proofs.Boards.{said_printer}
 use Rattle.layout.proofs.RoundTrip.{on_decode}
 use Rattle.fairness.specs.Run.{sum_turns}
 use Rattle.lanes.specs.Lag.{sum_over}
@@ -22,53 +22,33 @@ pub loop-j-init : goal.loop-j-init
 unfolding sum_over
 loop-j-init c = (omega arith, omega arith, omega arith, refl, refl)
 
-pub load_thread-th-requires : goal.load_thread-th-requires
-load_thread-th-requires c =
-    let long = c.requires.says_sound.0 in
-    (omega (arith, c.loop-j-test.true, long), printer_long long)
-
-pub overflow_add-turns : goal.overflow_add-turns
-overflow_add-turns c =
-    let s = decode printer c.args.table.now in
-    let p = c.args.priority in
-    let j = c.loop-j.j in
-    let inv = c.loop-j.invariant in
-    let own = c.load_thread-th.ensures _ (said_printer _ c.requires.says_sound.0) in
-    let turned : c.counted-turns.result ≡ (if in_line (ready p) (at s.threads j) then (at s.threads j).turn else 0) = rw own at c.counted-turns.ensures in
-    record { fits = omega (arith, turned, inv.0, inv.1, turn_most s c.requires.says_sound.1 p j) }
-
-pub overflow_add-charged : goal.overflow_add-charged
-overflow_add-charged c =
-    let s = decode printer c.args.table.now in
-    let p = c.args.priority in
-    let j = c.loop-j.j in
-    let inv = c.loop-j.invariant in
-    let own = c.load_thread-th.ensures _ (said_printer _ c.requires.says_sound.0) in
-    let charged : c.counted-charged.result ≡ (if in_line (ready p) (at s.threads j) then of c.args.accounts.now j else 0) = rw own at c.counted-charged.ensures in
-    record { fits = omega (arith, charged, inv.0, inv.2, c.requires.kept.1 j, counted_most (in_line (ready p) (at s.threads j)) (of c.args.accounts.now j)) }
-
 pub loop-j-preserved : goal.loop-j-preserved
 loop-j-preserved c =
     let s = decode printer c.args.table.now in
     let p = c.args.priority in
     let j = c.loop-j.j in
     let inv = c.loop-j.invariant in
-    let own = c.load_thread-th.ensures _ (said_printer _ c.requires.says_sound.0) in
+    let own = c.load_thread-th.ensures _ (said_printer _ c.told-table) in
     let turned : c.counted-turns.result ≡ (if in_line (ready p) (at s.threads j) then (at s.threads j).turn else 0) = rw own at c.counted-turns.ensures in
     let charged : c.counted-charged.result ≡ (if in_line (ready p) (at s.threads j) then of c.args.accounts.now j else 0) = rw own at c.counted-charged.ensures in
     let more : j < length s.threads = omega (arith, c.loop-j-test.true, (on_decode printer c.args.table.now).threads) in (
       omega (arith, c.loop-j-test.true),
-      omega (arith, turned, inv.1, turn_most s c.requires.says_sound.1 p j),
-      omega (arith, charged, inv.2, c.requires.kept.1 j, counted_most (in_line (ready p) (at s.threads j)) (of c.args.accounts.now j)),
+      omega (arith, turned, inv.1, turn_most s c.requires.sound p j),
+      omega (arith, charged, inv.2, c.requires.within j, counted_most (in_line (ready p) (at s.threads j)) (of c.args.accounts.now j)),
       omega (arith, turned, inv.3, turns_turn s.threads j more p),
       omega (arith, charged, inv.4, over_turn s.threads j more p (of c.args.accounts.now)),
     )
 
-pub returns : goal.returns
-returns c =
+pub returns-clause-turns : goal.returns-clause-turns
+returns-clause-turns c =
     let inv = c.loop-j.invariant in
     let ts = (decode printer c.args.table.now).threads in
-    let all : take c.loop-j.j ts ≡ ts = take_all c.loop-j.j ts (omega (arith, c.loop-j-test.false, (on_decode printer c.args.table.now).threads)) in record {
-      turns = (omega (arith, inv.0, inv.1), inv.3 ∙ ap (sum_turns c.args.priority) all);
-      charged = (omega (arith, inv.0, inv.2), inv.4 ∙ ap (sum_over c.args.priority (of c.args.accounts.now) 0) all);
-    }
+    let all : take c.loop-j.j ts ≡ ts = take_all c.loop-j.j ts (omega (arith, c.loop-j-test.false, (on_decode printer c.args.table.now).threads)) in
+    (omega (arith, inv.0, inv.1), inv.3 ∙ ap (sum_turns c.args.priority) all)
+
+pub returns-clause-charged : goal.returns-clause-charged
+returns-clause-charged c =
+    let inv = c.loop-j.invariant in
+    let ts = (decode printer c.args.table.now).threads in
+    let all : take c.loop-j.j ts ≡ ts = take_all c.loop-j.j ts (omega (arith, c.loop-j-test.false, (on_decode printer c.args.table.now).threads)) in
+    (omega (arith, inv.0, inv.2), inv.4 ∙ ap (sum_over c.args.priority (of c.args.accounts.now) 0) all)

@@ -1,14 +1,12 @@
 -- `replay::replay` meets its contract: at each turn the lines so far, and what is left of the input, give those of the whole; what is left
 -- of the input falls. Assumes nothing.
-use mathlib.Core.Path.{◌≡◌}
 use Prim.Native.Nat.{◌-◌}
 use lib.ListN.{length}
 use Rattle.replay.proofs.Progress.{Progress}
 use Rattle.replay.proofs.replay.Given as goal
 
 abbrev pub invariant-loop-record : goal.invariant-loop-record
-invariant-loop-record l =
-    (length l.table ≡ length l.initial.table) × (length l.out ≡ length l.initial.out) × Progress l.initial.table l.input l.first l.initial.out l.table l.out l.at l.number l.next
+invariant-loop-record g l = Progress l.initial.table l.input l.first l.initial.out l.table l.out l.at l.number
 
 abbrev pub decreases-loop-record : goal.decreases-loop-record
-decreases-loop-record l = length l.input - l.at
+decreases-loop-record g l = length l.input - l.at

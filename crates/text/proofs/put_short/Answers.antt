@@ -1,11 +1,12 @@
 -- `text::put_short` meets its contract: its word, then a field with the number. Assumes nothing.
+use borrow.Author.Rules.{rules}
 use native.Mathlib.Omega.{arith}
+use lib.ListN.{length-append}
 use Rattle.text.proofs.Room.{room_64}
-use Rattle.text.proofs.Putting.{◌followed_by◌}
 use Rattle.text.proofs.put_short.Goals as goal
 
 pub put_field-requires : goal.put_field-requires
-put_field-requires c = omega (arith, c.put_bytes-first.ensures.place, c.put_bytes-first.auto.out, room_64 c.ranges.n)
+put_field-requires g c = (search rules, grind (arith, length-append, room_64 c.ranges.n, c.extend.ensures, c.requires))
 
-pub returns : goal.returns
-returns c = record { puts = c.put_bytes-first.ensures followed_by c.put_field.ensures.puts; upper_bound = omega (arith, c.put_bytes-first.ensures.place, c.put_field.ensures.value, room_64 c.ranges.n) }
+pub returns-clause-upper_bound : goal.returns-clause-upper_bound
+returns-clause-upper_bound g c = grind (arith, length-append, c.extend.ensures, c.put_field.ensures, room_64 c.ranges.n)
