@@ -1,5 +1,6 @@
 -- Who is accepted was served on a sound table: its running thread and a thread that is created are on the board, and have accounts. What code 0
 -- is as the machine reads it. Assumes nothing.
+use Rattle.std.specs.Prelude.{Some}
 use mathlib.Core.Bool.{true, false, ◌&&◌, ◌||◌}
 use mathlib.Core.Path.{◌≡◌, refl, sym, ap, ◌∙◌}
 use mathlib.Core.List.{List}
@@ -26,7 +27,6 @@ use Rattle.rules.specs.Steps.{step}
 use Rattle.rules.specs.Door.{serve_decoded, door}
 use Rattle.rules.specs.declared.Request.{Request}
 use Rattle.rules.specs.declared.Request.TheVariants as Ask
-use Rattle.rules.specs.declared.Decoded.TheVariants.{Asked}
 use Rattle.laws.proofs.Split.{is, isnt, test, clash, and_true, or_false, if_case}
 use Rattle.laws.proofs.Lines.{ready_used}
 use Rattle.laws.proofs.Members.{used_range}
@@ -97,7 +97,7 @@ step_finds s Ask.Nearest σ z = tt
 step_finds s (Ask.SetPriority i p) σ z = tt
 step_finds s (Ask.SetTurn i n) σ z = tt
 
-pub finds : (b : Board) (t r a : List ℕ) (q : Request) → decode_request r ≡ Asked q → is_zero (door b t r a).code ≡ true → Finds b.threads (deed_of q) (decode b t).running
+pub finds : (b : Board) (t r a : List ℕ) (q : Request) → decode_request r ≡ Some q → is_zero (door b t r a).code ≡ true → Finds b.threads (deed_of q) (decode b t).running
 unfolding door serve_decoded
 finds b t r a q e z =
     let x = on_sound b t r a z in

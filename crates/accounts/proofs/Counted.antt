@@ -1,6 +1,6 @@
 -- The events that a call counts as: itself, unless it is an accepted operation 21, and then its ticks, of which there are at most 99,999. Assumes
 -- nothing.
-use Rattle.std.specs.Prelude.{if◌then◌else◌}
+use Rattle.std.specs.Prelude.{if◌then◌else◌, None, Option, Some}
 use mathlib.Core.Bool.{true, false, ◌&&◌}
 use mathlib.Core.Path.{◌≡◌, refl, ap}
 use mathlib.Core.List.{List, [], ◌∷◌}
@@ -9,6 +9,7 @@ use native.Mathlib.Omega.{arith}
 use lib.Dec.{eqb, ltb}
 use borrow.Author.Tests.{ltb-false, ne_eqb}
 use lib.ListN.{length}
+use Rattle.rules.specs.declared.Request.{Request}
 use Rattle.rules.specs.Board.{Board, most_ticks}
 use Rattle.rules.specs.State.{State}
 use Rattle.rules.specs.Table.{decode}
@@ -20,8 +21,6 @@ use Rattle.rules.specs.Answers.{code_of, area_length}
 use Rattle.rules.specs.Requests.{decode_request}
 use Rattle.rules.specs.Test.{sound_table}
 use Rattle.rules.specs.Door.{Doored, serve_decoded, door, Handed}
-use Rattle.rules.specs.declared.Decoded.{Decoded}
-use Rattle.rules.specs.declared.Decoded.TheVariants.{Asked, Bad}
 use Rattle.laws.proofs.Split.{or_false, if_case}
 use Rattle.fairness.specs.Run.{Event, deed, at_once, is_zero, slept}
 use Rattle.fairness.specs.Doors.{Door, event_of, single_ticks, counted_as}
@@ -37,10 +36,10 @@ unfolding do_ticks
 slept_step s n = if_case (λ (r : Step). (if is_zero (code_of r.answer) then n else 0) ≤ most_ticks) (bad_ticks n)
     (λ e. omega arith) (λ e. ltb-false most_ticks n (or_false (eqb n 0) (ltb most_ticks n) e).1)
 
-slept_decoded : (b : Board) (t : List ℕ) (x : Decoded) → (if is_zero (serve_decoded b t x).code then at_once (deed x) else 0) ≤ most_ticks
+slept_decoded : (b : Board) (t : List ℕ) (x : Option Request) → (if is_zero (serve_decoded b t x).code then at_once (deed x) else 0) ≤ most_ticks
 unfolding serve_decoded step
-slept_decoded b t Bad = omega arith
-slept_decoded b t (Asked q) = elim (sleeps q) [
+slept_decoded b t None = omega arith
+slept_decoded b t (Some q) = elim (sleeps q) [
   | awake e ↦ rw (e, nothing (is_zero (code_of (step (decode b t) q).answer))) (omega arith)
   | asleep n e ↦ rw e (slept_step (decode b t) n)
 ]

@@ -2,36 +2,19 @@
 #![tactic(auto)]
 
 ghost use Rattle.std.specs.Prelude.{◌≡◌, length};
-ghost use Rattle.rules.specs.Answers.{refusal_code, code_of, value_of, bits_of, area_length, area_of};
+ghost use Rattle.rules.specs.Answers.{code_of, value_of, area_length, area_of};
 
-use rules::{Answer, Refusal};
-
-// Why a request is refused, as −1 to −8.
-fn refusal_code(why: Refusal) -> i32
-    ensures { result ≡ refusal_code why }
-{
-    match why {
-        Refusal::BadThread => -1,
-        Refusal::BadPriority => -2,
-        Refusal::BadTicks => -3,
-        Refusal::BadState => -4,
-        Refusal::BadOperation => -5,
-        Refusal::BadSemaphore => -6,
-        Refusal::BadTable => -7,
-        Refusal::BadRecord => -8,
-    }
-}
+use rules::{Answer, Reply};
 
 // An answer's code.
 pub fn code(a: Answer) -> i32
     ensures { result ≡ code_of a }
 {
     match a {
-        Answer::Done { value: _ } => 0,
-        Answer::Blocked { ahead: _ } => 1,
-        Answer::NoneYet => 1,
-        Answer::Failed => -5,
-        Answer::Refused { why } => refusal_code(why),
+        Ok(Reply::Done { .. }) => 0,
+        Ok(Reply::Blocked { .. } | Reply::NoneYet) => 1,
+        Ok(Reply::Failed) => -5,
+        Err(why) => i32::from(why),
     }
 }
 
@@ -40,22 +23,8 @@ pub fn value(a: Answer) -> u32
     ensures { result ≡ value_of a }
 {
     match a {
-        Answer::Done { value } => value,
-        Answer::Blocked { ahead } => ahead,
-        Answer::NoneYet => 0,
-        Answer::Failed => 0,
-        Answer::Refused { why: _ } => 0,
-    }
-}
-
-// The 32 bits of a code. A cast keeps the number, so a negative code goes by its complement.
-fn bits(code: i32) -> u32
-    ensures { result ≡ bits_of code }
-{
-    if code < 0 {
-        !(!code as u32)
-    } else {
-        code as u32
+        Ok(Reply::Done { value } | Reply::Blocked { ahead: value }) => value,
+        Ok(Reply::NoneYet | Reply::Failed) | Err(_) => 0,
     }
 }
 
@@ -64,6 +33,7 @@ pub fn put_answer(area: &mut [u8], a: Answer)
     requires { length area.old ≡ area_length }
     ensures { area.new ≡ area_of a }
 {
-    words::put_word(area, 0, bits(code(a)));
+    let code = code(a);
+    words::put_word(area, 0, code.cast_unsigned());
     words::put_word(area, rules::VALUE_FROM, value(a));
 }

@@ -3,7 +3,7 @@ use mathlib.Core.Bool.{true}
 use mathlib.Core.Path.{◌≡◌}
 use mathlib.Core.Logic.{◌↔◌}
 use mathlib.Core.List.{List}
-use Prim.Native.Nat.{ℕ, zero, suc, ◌+◌, ◌*◌, ◌-◌, ◌/◌, ◌%◌, ◌≤◌, ◌<◌}
+use Prim.Native.Nat.{ℕ, zero, suc, ◌+◌, ◌-◌, ◌/◌, ◌≤◌, ◌<◌}
 use native.Mathlib.Nat.{add-zero}
 use native.Mathlib.Omega.{arith}
 use native.Mathlib.Decide.{dec_lt}
@@ -53,12 +53,16 @@ module _ (t : List ℕ) where
       omega (arith, low, high)
 
   module _ (base : ℕ) where
-    pub longs_behind : ((q : ℕ) → q < 3 → 1 ≤ q → long_at t (base + q * 8) ≡ 0) ↔ ((k : ℕ) → 8 ≤ k → k < record_length → get_or t (base + k) 0 ≡ 0)
-    longs_behind = (
-      λ w k l h.
-          let e : base + k ≡ base + k / 8 * 8 + k % 8 = omega arith in
-          rw e (long_zero (base + k / 8 * 8) (w (k / 8) (omega arith) (omega arith)) (k % 8) (omega arith)),
-      λ z q h l. zero_long (base + q * 8) (λ r n. let e : base + q * 8 + r ≡ base + (q * 8 + r) = omega arith in rw e (z (q * 8 + r) (omega arith) (omega arith))),
+    pub longs_behind : (long_at t (base + 8) ≡ 0) → (long_at t (base + 16) ≡ 0) → (k : ℕ) → 8 ≤ k → k < record_length → get_or t (base + k) 0 ≡ 0
+    longs_behind one two k l h = elim (dec_lt k 16) [
+      | yes m ↦ let e : base + k ≡ base + 8 + (k - 8) = omega arith in rw e (long_zero (base + 8) one (k - 8) (omega arith))
+      | no m ↦ let e : base + k ≡ base + 16 + (k - 16) = omega arith in rw e (long_zero (base + 16) two (k - 16) (omega arith))
+    ]
+
+    pub behind_longs : ((k : ℕ) → 8 ≤ k → k < record_length → get_or t (base + k) 0 ≡ 0) → (long_at t (base + 8) ≡ 0) × (long_at t (base + 16) ≡ 0)
+    behind_longs z = (
+      zero_long (base + 8) (λ r n. let e : base + 8 + r ≡ base + (8 + r) = omega arith in rw e (z (8 + r) (omega arith) (omega arith))),
+      zero_long (base + 16) (λ r n. let e : base + 16 + r ≡ base + (16 + r) = omega arith in rw e (z (16 + r) (omega arith) (omega arith))),
     )
 
     -- the first eight as well

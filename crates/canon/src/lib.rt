@@ -1,11 +1,11 @@
 // Does a table say its state and nothing else? "Bytes given no meaning are zero, every field is in range", record by record.
 #![tactic(auto)]
 
-ghost use Rattle.std.specs.Prelude.{◌≡◌, true, ◌↔◌, ℕ, ◌+◌, ◌*◌, ◌≤◌, ◌<◌, length, get_or};
+ghost use Rattle.std.specs.Prelude.{◌≡◌, true, ◌↔◌, ℕ, ◌+◌, ◌*◌, ◌≤◌, ◌<◌, leb, ◌&&◌, length, get_or};
 ghost use Rattle.rules.specs.Board.{record_length};
 ghost use Rattle.layout.specs.Bytes.{sems_from, kernel_from};
 ghost use Rattle.layout.specs.Boards.{HasThread, HasSem};
-ghost use Rattle.layout.specs.Canon.{wait_canon, outcome_canon, head_canon, thread_canon, rest_zero, sem_canon};
+ghost use Rattle.layout.specs.Canon.{wait_canon, outcome_canon, thread_canon, rest_zero, sem_canon};
 ghost use Rattle.layout.specs.Held.{board, Long};
 ghost use Rattle.canon.specs.Zero.{record_zero};
 
@@ -18,11 +18,7 @@ fn zero_behind(t: &[u8], base: usize, first: u64) -> bool
     requires { base + record_length ≤ length t.now }
     ensures { (result ≡ true) ↔ ((first ≡ 0) × ((k : ℕ) → 8 ≤ k → k < record_length → get_or t.now (base + k) 0 ≡ 0)) }
 {
-    let mut all = first;
-    for q in 1..3usize {
-        all |= words::long_at(t, base + q * 8);
-    }
-    all == 0
+    first | words::long_at(t, base + 8) | words::long_at(t, base + 16) == 0
 }
 
 // Is every byte of thread `i`'s record 0?
@@ -39,7 +35,7 @@ fn rest_zero(t: &[u8], base: usize) -> bool
     requires { base + record_length ≤ length t.now }
     ensures { result ≡ rest_zero 2 t.now base }
 {
-    zero_behind(t, base, words::long_at(t, base) / 65536)
+    zero_behind(t, base, words::long_at(t, base) >> 16)
 }
 
 // THE RECORDS
@@ -56,22 +52,10 @@ fn outcome_canon(byte: u8) -> bool
     byte <= 1 || byte == 251
 }
 
-fn head_canon(used: u8, suspended: u8, kind: u8, object: u8, full: u8, outcome: u8) -> bool
-    ensures { result ≡ head_canon used suspended kind object full outcome }
+fn flags_canon(used: u8, suspended: u8, full: u8) -> bool
+    ensures { result ≡ leb used 1 && leb suspended 1 && leb full 1 }
 {
-    if used > 1 {
-        return false;
-    }
-    if suspended > 1 {
-        return false;
-    }
-    if full > 1 {
-        return false;
-    }
-    if !wait_canon(kind, object) {
-        return false;
-    }
-    outcome_canon(outcome)
+    used <= 1 && suspended <= 1 && full <= 1
 }
 
 // Thread `i`'s record.
@@ -80,14 +64,12 @@ pub fn thread_canon(t: &[u8], i: usize) -> bool
     ensures { result ≡ thread_canon t.now (i * record_length) }
 {
     let base = i * RECORD;
-    head_canon(
+    flags_canon(
         t[base + field::USED],
         t[base + field::SUSPENDED],
-        t[base + field::KIND],
-        t[base + field::OBJECT],
         t[base + field::FULL],
-        t[base + field::OUTCOME],
-    )
+    ) && wait_canon(t[base + field::KIND], t[base + field::OBJECT])
+        && outcome_canon(t[base + field::OUTCOME])
 }
 
 // Semaphore `k`'s record.
@@ -96,10 +78,7 @@ pub fn sem_canon(t: &[u8], k: usize) -> bool
     ensures { result ≡ sem_canon t.now (sems_from (board t.now) + k * record_length) }
 {
     let base = boards::semaphore_from(t, k);
-    if t[base + field::USED] > 1 {
-        return false;
-    }
-    rest_zero(t, base)
+    t[base + field::USED] <= 1 && rest_zero(t, base)
 }
 
 // The kernel's record: every byte 0 past the ready word, which ends with the sixth.
@@ -108,5 +87,5 @@ pub fn kernel_canon(t: &[u8]) -> bool
     ensures { result ≡ rest_zero 6 t.now (kernel_from (board t.now)) }
 {
     let base = boards::kernel_from(t);
-    zero_behind(t, base, words::long_at(t, base) / 281474976710656)
+    zero_behind(t, base, words::long_at(t, base) >> 48)
 }

@@ -1,6 +1,6 @@
 -- One call of the door, over bytes, is an event by the rules on the states that the tables say, and one of operation 21 is as many single ticks:
 -- these end with the state that the table after the call says. Assumes nothing.
-use Rattle.std.specs.Prelude.{if◌then◌else◌}
+use Rattle.std.specs.Prelude.{if◌then◌else◌, None, Option, Some, Ok}
 use mathlib.Core.Bool.{Bool, true, false, ◌&&◌}
 use mathlib.Core.Path.{◌≡◌, refl, ap, sym, ◌∙◌}
 use mathlib.Core.Logic.{◌≢◌}
@@ -22,11 +22,9 @@ use Rattle.rules.specs.Answers.{code_of, area_length}
 use Rattle.rules.specs.Requests.{decode_request, tick_record}
 use Rattle.rules.specs.Test.{sound_table}
 use Rattle.rules.specs.Door.{answered, serve_decoded, door, Handed}
-use Rattle.rules.specs.declared.Answer.TheVariants.{Done}
+use Rattle.rules.specs.declared.Reply.TheVariants.{Done}
 use Rattle.rules.specs.declared.Request.{Request}
 use Rattle.rules.specs.declared.Request.TheVariants as Ask
-use Rattle.rules.specs.declared.Decoded.{Decoded}
-use Rattle.rules.specs.declared.Decoded.TheVariants.{Asked, Bad}
 use Rattle.rules.proofs.Tried.{tick_asked}
 use Rattle.laws.proofs.Split.{is, isnt, test, and_true, if_case}
 use Rattle.laws.proofs.Tested.{tested_table, let_in}
@@ -40,10 +38,10 @@ use Rattle.fairness.specs.Fair.{ByRules, refused, served, RunFrom}
 
 -- ONE EVENT
 
-serves : (b : Board) (t : List ℕ) (h : Handed) (x : Decoded) → decode_request h.request ≡ x → ByRules (event_of b t h (serve_decoded b t x))
+serves : (b : Board) (t : List ℕ) (h : Handed) (x : Option Request) → decode_request h.request ≡ x → ByRules (event_of b t h (serve_decoded b t x))
 unfolding serve_decoded
-serves b t h (Asked q) e = served q e refl (decode_encode (on_kept b (decode b t) q (on_decode b t)))
-serves b t h Bad e = refused refl refl
+serves b t h (Some q) e = served q e refl (decode_encode (on_kept b (decode b t) q (on_decode b t)))
+serves b t h None e = refused refl refl
 
 opens : (b : Board) (t : List ℕ) (h : Handed) → ByRules (event_of b t h (door b t h.request h.area))
 unfolding door
@@ -57,7 +55,7 @@ tick_run b zero t a = tt
 tick_run b (suc n) t a = (refl, opens b t (record { request = tick_record; area = a }), tick_run b n (door b t tick_record a).table a)
 
 -- a tick of a sound table, where the area is long enough
-pub ticked : (b : Board) (t a : List ℕ) → SoundTable b t → length a ≡ area_length → door b t tick_record a ≡ answered (encode (do_tick (decode b t)).state) (Done 0)
+pub ticked : (b : Board) (t a : List ℕ) → SoundTable b t → length a ≡ area_length → door b t tick_record a ≡ answered (encode (do_tick (decode b t)).state) (Ok (Done 0))
 unfolding serve_decoded step do_tick
 ticked b t a σ l = let_in b t tick_record a σ l ∙ ap (serve_decoded b t) tick_asked
 
@@ -120,11 +118,11 @@ unfolding do_ticks
 slept_ticks b s o n r e = rw e (if_case (λ (r : Step). (if is_zero (code_of r.answer) then n else 0) ≢ 0 → decode b (encode r.state) ≡ ticks (if is_zero (code_of r.answer) then n else 0) s)
     (bad_ticks n) (λ k h. absurd (h refl)) (λ k h. decode_encode (on_ticks b s n o)))
 
-slept_served : (b : Board) (t : List ℕ) (x : Decoded) → (if is_zero (serve_decoded b t x).code then at_once (deed x) else 0) ≢ 0
+slept_served : (b : Board) (t : List ℕ) (x : Option Request) → (if is_zero (serve_decoded b t x).code then at_once (deed x) else 0) ≢ 0
     → decode b (serve_decoded b t x).table ≡ ticks (if is_zero (serve_decoded b t x).code then at_once (deed x) else 0) (decode b t)
 unfolding serve_decoded step
-slept_served b t Bad h = absurd (h refl)
-slept_served b t (Asked q) h = elim (sleeps q) [
+slept_served b t None h = absurd (h refl)
+slept_served b t (Some q) h = elim (sleeps q) [
   | awake e ↦ absurd (h (rw e (nothing (is_zero (code_of (step (decode b t) q).answer)))))
   | asleep n e ↦ rw e (slept_ticks b (decode b t) (on_decode b t) n (do_ticks (decode b t) n) refl (rw e at h))
 ]

@@ -1,6 +1,6 @@
 -- Every operation but a tick's charge keeps the rank, where the rank's ready set comes out the same: whom it moves is no member, or has
 -- left the set. Assumes nothing.
-use Rattle.std.specs.Prelude.{if◌then◌else◌}
+use Rattle.std.specs.Prelude.{if◌then◌else◌, Err}
 use mathlib.Core.Bool.{Bool, true, false, true≢false, not, ◌&&◌, ◌||◌}
 use mathlib.Core.Path.{◌≡◌, refl, ap, sym, ◌∙◌}
 use mathlib.Core.List.{List}
@@ -27,8 +27,7 @@ use Rattle.rules.specs.declared.Outcome.TheVariants.{Done, Failed}
 use Rattle.rules.specs.Steps.{step}
 use Rattle.rules.specs.declared.Request.{Request}
 use Rattle.rules.specs.declared.Request.TheVariants as Ask
-use Rattle.rules.specs.declared.Answer.{Answer}
-use Rattle.rules.specs.declared.Answer.TheVariants.{Refused}
+use Rattle.rules.specs.Answers.{Answer}
 use Rattle.rules.specs.declared.Refusal.TheVariants.{BadTicks}
 use Rattle.laws.proofs.Split.{is, isnt, test, clash, and_true, or_false, if_case}
 use Rattle.laws.proofs.Lines.{same_eq, line_filled, line_priority, in_ready, waiting_out, unready_out, free_out, suspended_out}
@@ -229,7 +228,7 @@ ruleset ranks = (effect_if, untouched, settled, gone, stops, blocks, keeps_refl,
 -- many ticks at once are refused here: accepted ones are counted as single ticks
 slept : (p : ℕ) (s : State) (n : ℕ) → is_zero (code_of (do_ticks s n).answer) && true ≡ false → Effect p s (do_ticks s n)
 unfolding do_ticks
-slept p s n = if_case (λ (r : Step). is_zero (code_of r.answer) && true ≡ false → Effect p s r) (bad_ticks n) (λ e h. untouched p s (Refused BadTicks)) (λ e h. absurd (true≢false h))
+slept p s n = if_case (λ (r : Step). is_zero (code_of r.answer) && true ≡ false → Effect p s r) (bad_ticks n) (λ e h. untouched p s (Err BadTicks)) (λ e h. absurd (true≢false h))
 
 pub does : (p : ℕ) (s : State) (q : Request) → is_zero (code_of (step s q).answer) && moves p s (deed_of q) ≡ false → Does p s q
 unfolding step do_yield do_create do_delete do_suspend do_resume do_delay break_off do_cancel end_wait block must_wait do_send do_send_from_interrupt do_receive do_make do_drop do_pend do_abort posted do_post

@@ -1,18 +1,17 @@
 -- Fairness over states, of any number of threads: whoever the rules serve, each thread of a rank is charged its own turn.
-use Rattle.std.specs.Prelude.{Bool, true, false, not, ◌&&◌, ◌≡◌, List, [], ◌∷◌, ◌++◌, ℕ, ◌*◌, eqb}
+use Rattle.std.specs.Prelude.{Bool, true, false, not, ◌&&◌, ◌≡◌, List, [], ◌∷◌, ◌++◌, ℕ, ◌*◌, eqb, Some}
 use Rattle.rules.specs.Basic.{count, all}
 use Rattle.rules.specs.State.{State, at}
 use Rattle.rules.specs.Sound.{Sound}
 use Rattle.rules.specs.Answers.{code_of}
 use Rattle.rules.specs.Steps.{step}
 use Rattle.rules.specs.declared.Request.{Request}
-use Rattle.rules.specs.declared.Decoded.TheVariants.{Asked}
 use Rattle.fairness.specs.Run.{Event, Deed, tick, yield, other, set_priority, set_turn, create, sleep, deed, accepted, ready_at, same_set, sum_turns, charged_to, charged_rank}
 
 -- an event by the rules: it is refused and leaves the state as it is, or it is what `step` says
 pub data ByRules (e : Event) : Type 0 where
   refused : accepted e ≡ false → e.after ≡ e.before → ByRules e
-  served : (q : Request) → e.asked ≡ Asked q → e.code ≡ code_of (step e.before q).answer → e.after ≡ (step e.before q).state → ByRules e
+  served : (q : Request) → e.asked ≡ Some q → e.code ≡ code_of (step e.before q).answer → e.after ≡ (step e.before q).state → ByRules e
 
 -- a run by the rules, from state s
 abbrev pub RunFrom : State → List Event → Type 0

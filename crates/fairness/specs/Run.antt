@@ -1,19 +1,17 @@
 -- A run, event by event, and the words that demand 3 uses of it: the ready set of a rank, its threads' turns, and the ticks that are
 -- charged. They compute from what was asked and answered; they know neither the rules nor the bytes.
-use Rattle.std.specs.Prelude.{if◌then◌else◌, Bool, true, false, not, ◌&&◌, List, [], ◌∷◌, map, ℕ, ◌+◌, eqb, ℤ, pos, negsuc}
+use Rattle.std.specs.Prelude.{if◌then◌else◌, Bool, true, false, not, ◌&&◌, List, [], ◌∷◌, map, ℕ, ◌+◌, eqb, ℤ, pos, negsuc, None, Option, Some}
 use Rattle.rules.specs.Basic.{bit, same_bytes}
 use Rattle.rules.specs.State.{State, at}
 use Rattle.rules.specs.Lines.{ready, in_line}
 use Rattle.rules.specs.declared.Thread.{Thread}
 use Rattle.rules.specs.declared.Request.{Request}
 use Rattle.rules.specs.declared.Request.TheVariants as Ask
-use Rattle.rules.specs.declared.Decoded.{Decoded}
-use Rattle.rules.specs.declared.Decoded.TheVariants.{Asked, Bad}
 
 -- a step of a run: the state before it, what was asked, the code that was answered, and the state after it
 pub record Event : Type 0 where
   pub before : State
-  pub asked : Decoded
+  pub asked : Option Request
   pub code : ℤ
   pub after : State
 
@@ -56,9 +54,9 @@ deed_of (Ask.SetPriority i p) = set_priority i
 deed_of (Ask.SetTurn i n) = set_turn i
 
 -- a record that asks nothing is no such deed
-abbrev pub deed : Decoded → Deed
-deed (Asked q) = deed_of q
-deed Bad = other
+abbrev pub deed : Option Request → Deed
+deed (Some q) = deed_of q
+deed None = other
 
 abbrev pub is_tick : Deed → Bool
 is_tick tick = true

@@ -1,5 +1,5 @@
 -- Who is charged by a leap, without its single ticks, and by these.
-use Rattle.std.specs.Prelude.{if◌then◌else◌, not, ◌≡◌, List, [], ◌∷◌, ℕ, zero, suc, ◌*◌, ◌≤◌, eqb, pos}
+use Rattle.std.specs.Prelude.{if◌then◌else◌, not, ◌≡◌, List, [], ◌∷◌, ℕ, zero, suc, ◌*◌, ◌≤◌, eqb, pos, Some}
 use Rattle.rules.specs.Basic.{count}
 use Rattle.rules.specs.State.{State, at}
 use Rattle.rules.specs.Lines.{ready, in_line}
@@ -7,13 +7,12 @@ use Rattle.rules.specs.Time.{do_tick}
 use Rattle.rules.specs.Sound.{Sound}
 use Rattle.rules.specs.declared.Thread.{Thread}
 use Rattle.rules.specs.declared.Request.TheVariants as Ask
-use Rattle.rules.specs.declared.Decoded.TheVariants.{Asked}
 use Rattle.fairness.specs.Run.{Event, charged_to}
 use Rattle.leaps.specs.Ticks.{Leap, leap}
 
 -- an accepted tick of state s, and n of them one after the other
 abbrev pub tick_event : State → Event
-tick_event s = record { before = s; asked = Asked Ask.Tick; code = pos 0; after = (do_tick s).state }
+tick_event s = record { before = s; asked = Some Ask.Tick; code = pos 0; after = (do_tick s).state }
 
 unfoldable pub tick_events : ℕ → State → List Event
 tick_events zero s = []

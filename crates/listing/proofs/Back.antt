@@ -1,8 +1,8 @@
 -- Whole texts and whole records there and back, line by line and record by record. Assumes nothing.
+use Rattle.std.specs.Prelude.{Option, None, Some}
 use mathlib.Core.Path.{◌≡◌, refl, sym, ap, ◌∙◌}
 use mathlib.Core.Bool.{Bool, true, false, not, ◌&&◌}
 use mathlib.Core.List.{List, [], ◌∷◌, ◌++◌, flatten, append-nil}
-use mathlib.Core.Option.{Option, none, some}
 use Prim.Native.Nat.{ℕ, zero, suc, ◌+◌, ◌*◌, ◌/◌}
 use native.Mathlib.Decide.{dec_lt}
 use native.Mathlib.Omega.{arith}
@@ -29,25 +29,25 @@ abbrev AllBytes : List (List ℕ) → Type 0
 AllBytes [] = Unit {0}
 AllBytes (r ∷ rs) = Bytes r × AllBytes rs
 
-none_written : (k : ℕ) → turned_from ToRecords k [] ≡ record { done = []; bad = none }
+none_written : (k : ℕ) → turned_from ToRecords k [] ≡ record { done = []; bad = None }
 unfolding turned_from lines_of each
 none_written k = refl
 
 -- a first line that is taken
-one_written : (k : ℕ) (l r t : List ℕ) → record_of l ≡ some r
+one_written : (k : ℕ) (l r t : List ℕ) → record_of l ≡ Some r
     → turned_from ToRecords k (l ++ line_feed ∷ t) ≡ record { done = r ∷ (turned_from ToRecords (suc k) t).done; bad = (turned_from ToRecords (suc k) t).bad }
 unfolding turned_from each
 one_written k l r t e = rw (first_line l t (taken_clean l r e), e) refl
 
 whole_step : (m : Option (List ℕ)) (j k : ℕ) (r : List ℕ) (rs : List (List ℕ)) (out : Out) → Bytes r → line_of r ≡ m
-    → ((j : ℕ) → turned_from ToRecords j (text_of out.done) ≡ record { done = take (length out.done) rs; bad = none })
-    → turned_from ToRecords j (text_of (joined m k out).done) ≡ record { done = take (length (joined m k out).done) (r ∷ rs); bad = none }
+    → ((j : ℕ) → turned_from ToRecords j (text_of out.done) ≡ record { done = take (length out.done) rs; bad = None })
+    → turned_from ToRecords j (text_of (joined m k out).done) ≡ record { done = take (length (joined m k out).done) (r ∷ rs); bad = None }
 unfolding text_of
-whole_step none j k r rs out byte e h = none_written j
-whole_step (some l) j k r rs out byte e h = one_written j l r (text_of out.done) (line_back r l byte e) ∙ rw (h (suc j)) refl
+whole_step None j k r rs out byte e h = none_written j
+whole_step (Some l) j k r rs out byte e h = one_written j l r (text_of out.done) (line_back r l byte e) ∙ rw (h (suc j)) refl
 
 whole_from : (j k : ℕ) (rs : List (List ℕ)) (rest : List ℕ) → AllBytes rs
-    → turned_from ToRecords j (text_of (each line_of k rs rest).done) ≡ record { done = take (length (each line_of k rs rest).done) rs; bad = none }
+    → turned_from ToRecords j (text_of (each line_of k rs rest).done) ≡ record { done = take (length (each line_of k rs rest).done) rs; bad = None }
 unfolding each text_of
 whole_from j k [] [] byte = none_written j
 whole_from j k [] (c ∷ cs) byte = none_written j
@@ -97,7 +97,7 @@ plain_parts s (c ∷ l) t e =
     let q = plain_parts (not (is_digit c)) l t p.1 in
     (and_both (not (s && eqb c 48 && digit_first l)) (plain_from (not (is_digit c)) l) (rw (digit_first_on l t) at p.0) q.0, q.1)
 
-back_from : (j k : ℕ) (ls : List (List ℕ)) → (each record_of k ls []).bad ≡ none → plain (text_of ls) ≡ true
+back_from : (j k : ℕ) (ls : List (List ℕ)) → (each record_of k ls []).bad ≡ None → plain (text_of ls) ≡ true
     → text_of (each line_of j (each record_of k ls []).done []).done ≡ text_of ls
 unfolding each text_of
 back_from j k [] e p = refl
@@ -112,12 +112,12 @@ abbrev Twelve : List (List ℕ) → Type 0
 Twelve [] = Unit {0}
 Twelve (r ∷ rs) = (length r ≡ request_length) × Twelve rs
 
-pub record_long : (l r : List ℕ) → record_of l ≡ some r → length r ≡ request_length
+pub record_long : (l r : List ℕ) → record_of l ≡ Some r → length r ≡ request_length
 record_long l r e = ap length (sym (read l r e).made)
 
 twelve_joined : (m : Option (List ℕ)) (k : ℕ) (l : List ℕ) (out : Out) → record_of l ≡ m → Twelve out.done → Twelve (joined m k out).done
-twelve_joined none k l out e h = tt
-twelve_joined (some r) k l out e h = (record_long l r e, h)
+twelve_joined None k l out e h = tt
+twelve_joined (Some r) k l out e h = (record_long l r e, h)
 
 twelve_each : (k : ℕ) (ls : List (List ℕ)) (rest : List ℕ) → Twelve (each record_of k ls rest).done
 unfolding each

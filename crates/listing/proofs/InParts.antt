@@ -1,10 +1,9 @@
 -- An input in parts is the input: what comes out of a part, and then of what is left of it with the next part, is what comes out of both. Assumes
 -- nothing.
-use Rattle.std.specs.Prelude.{if◌then◌else◌}
+use Rattle.std.specs.Prelude.{if◌then◌else◌, Option, None, Some}
 use mathlib.Core.Path.{◌≡◌, refl, sym, ap, ◌∙◌}
 use mathlib.Core.Bool.{Bool, true, false, ◌||◌}
 use mathlib.Core.List.{List, [], ◌∷◌, ◌++◌, flatten, append-nil, append_assoc}
-use mathlib.Core.Option.{Option, none, some}
 use Prim.Native.Nat.{ℕ, suc, ◌+◌, ◌≤◌, ◌<◌}
 use native.Mathlib.Omega.{arith}
 use lib.Dec.{eqb}
@@ -56,29 +55,29 @@ lines_fronted (c ∷ t) more e =
           rw (f, lines_fronted t more none_left) (fronted_one c t (lines_of more).pieces (lines_of more).rest)
     ]
 
-rest_bad : (k : ℕ) (r : List ℕ) → 0 < length r → each record_of k [] r ≡ record { done = []; bad = some k }
+rest_bad : (k : ℕ) (r : List ℕ) → 0 < length r → each record_of k [] r ≡ record { done = []; bad = Some k }
 unfolding each
 rest_bad k [] h = absurd (omega arith)
 rest_bad k (c ∷ cs) h = refl
 
 fronted_bad : (k : ℕ) (t : List ℕ) (ls : List (List ℕ)) (r : List ℕ) → line_most < length t
-    → each record_of k (fronted t ls r).pieces (fronted t ls r).rest ≡ record { done = []; bad = some k }
+    → each record_of k (fronted t ls r).pieces (fronted t ls r).rest ≡ record { done = []; bad = Some k }
 unfolding fronted each
 fronted_bad k t [] r h = rest_bad k (t ++ r) (omega (arith, length-append t r))
 fronted_bad k t (l ∷ ls) r h = rw (sym (too_long_lem (t ++ l) (omega (arith, length-append t l)))) refl
 
-too_long_text : (k : ℕ) (rest more : List ℕ) → (lines_of rest).pieces ≡ [] → line_most < length rest → turned_from ToRecords k (rest ++ more) ≡ record { done = []; bad = some k }
+too_long_text : (k : ℕ) (rest more : List ℕ) → (lines_of rest).pieces ≡ [] → line_most < length rest → turned_from ToRecords k (rest ++ more) ≡ record { done = []; bad = Some k }
 unfolding turned_from
 too_long_text k rest more e h = rw (lines_fronted rest more e) (fronted_bad k rest (lines_of more).pieces (lines_of more).rest h)
 
-too_long_on : (w : Way) (k : ℕ) (rest more : List ℕ) → Open w rest → too_long w (length rest) ≡ true → turned_from w k (rest ++ more) ≡ record { done = []; bad = some k }
+too_long_on : (w : Way) (k : ℕ) (rest more : List ℕ) → Open w rest → too_long w (length rest) ≡ true → turned_from w k (rest ++ more) ≡ record { done = []; bad = Some k }
 too_long_on ToRecords k rest more o e = too_long_text k rest more o.none (ltb-true line_most (length rest) e)
 too_long_on ToListing k rest more o e = absurd (clash e refl)
 
 -- A PART AND MORE
 
 module _ (w : Way) (k : ℕ) (come more : List ℕ) where
-  whole_on : (part_of w come).bad ≡ none
+  whole_on : (part_of w come).bad ≡ None
       → turned_from w k (come ++ more) ≡ before (part_of w come).done (turned_from w (k + length (part_of w come).done) ((cut w come).rest ++ more))
   unfolding turned_from part_of
   whole_on e =
@@ -90,8 +89,8 @@ module _ (w : Way) (k : ℕ) (come more : List ℕ) where
       (each_on (rule w) k xs (cut w (rest ++ more)).pieces (cut w (rest ++ more)).rest (s.taken e)
       ∙ ap (λ (d : List (List ℕ)). before d (each (rule w) (k + length xs) (cut w (rest ++ more)).pieces (cut w (rest ++ more)).rest)) s.done)
 
-  bad_there : (j : ℕ) → (part_of w come).bad ≡ some j
-      → turned_from w k (come ++ more) ≡ record { done = (part_of w come).done; bad = some (k + length (part_of w come).done) }
+  bad_there : (j : ℕ) → (part_of w come).bad ≡ Some j
+      → turned_from w k (come ++ more) ≡ record { done = (part_of w come).done; bad = Some (k + length (part_of w come).done) }
   unfolding turned_from part_of
   bad_there j e =
       let xs = (cut w come).pieces in
@@ -110,12 +109,12 @@ module _ (w : Way) (k : ℕ) (come more : List ℕ) where
     where
       go : (b : Option ℕ) → (part_of w come).bad ≡ b → is_bad (part_of w come).bad ≡ false
           → turned_from w k (come ++ more) ≡ before (part_of w come).done (turned_from w (k + length (part_of w come).done) ((cut w come).rest ++ more))
-      go none b f = whole_on b
-      go (some j) b f = absurd (clash (ap is_bad b) f)
+      go None b f = whole_on b
+      go (Some j) b f = absurd (clash (ap is_bad b) f)
 
   -- it is the last
   pub stops_there : stops w come ≡ true
-      → turned_from w k (come ++ more) ≡ record { done = (part_of w come).done; bad = some (k + length (part_of w come).done) }
+      → turned_from w k (come ++ more) ≡ record { done = (part_of w come).done; bad = Some (k + length (part_of w come).done) }
   unfolding stops
   stops_there e = go (part_of w come).bad refl
     where
@@ -124,22 +123,22 @@ module _ (w : Way) (k : ℕ) (come more : List ℕ) where
       long false f e = e
 
       go : (b : Option ℕ) → (part_of w come).bad ≡ b
-          → turned_from w k (come ++ more) ≡ record { done = (part_of w come).done; bad = some (k + length (part_of w come).done) }
-      go (some j) b = bad_there j b
-      go none b =
+          → turned_from w k (come ++ more) ≡ record { done = (part_of w come).done; bad = Some (k + length (part_of w come).done) }
+      go (Some j) b = bad_there j b
+      go None b =
           whole_on b
           ∙ ap (before (part_of w come).done) (too_long_on w (k + length (part_of w come).done) (cut w come).rest more (left_open w come) (long (is_bad (part_of w come).bad) (ap is_bad b) e))
-          ∙ ap (λ (d : List (List ℕ)). record { done = d; bad = some (k + length (part_of w come).done) }) (append-nil (part_of w come).done)
+          ∙ ap (λ (d : List (List ℕ)). record { done = d; bad = Some (k + length (part_of w come).done) }) (append-nil (part_of w come).done)
 
 -- PART AFTER PART
 
 -- nothing more comes
 pub last_open : (w : Way) (k : ℕ) (held : List ℕ) → Open w held
-    → turned_from w k held ≡ record { done = []; bad = if is_some held then some k else none }
+    → turned_from w k held ≡ record { done = []; bad = if is_some held then Some k else None }
 unfolding turned_from each
 last_open w k held o = rw (o.none, o.all) (go held)
   where
-    go : (l : List ℕ) → each (rule w) k [] l ≡ record { done = []; bad = if is_some l then some k else none }
+    go : (l : List ℕ) → each (rule w) k [] l ≡ record { done = []; bad = if is_some l then Some k else None }
     go [] = refl
     go (c ∷ cs) = refl
 
@@ -161,7 +160,7 @@ holds_room w come =
           (omega (arith, ap length (cut_whole w come), length-append (input_of w (cut w come).pieces) (cut w come).rest))
     ]
 
-none_more : (w : Way) (k : ℕ) (held : List ℕ) (parts : List (List ℕ)) → out_of_all w (record { number = k; held = held; stopped = true }) parts ≡ record { done = []; bad = some k }
+none_more : (w : Way) (k : ℕ) (held : List ℕ) (parts : List (List ℕ)) → out_of_all w (record { number = k; held = held; stopped = true }) parts ≡ record { done = []; bad = Some k }
 unfolding out_of_all
 none_more w k held [] = refl
 none_more w k held (p ∷ parts) = rw (none_more w k held parts) refl

@@ -1,9 +1,9 @@
 -- A number in decimal is read back; and a number that is read, if it has no leading zero, is the decimal of what was read. Both go digit by
 -- digit, the first from the last digit on, the second from the first. Assumes nothing.
+use Rattle.std.specs.Prelude.{Some}
 use mathlib.Core.Path.{◌≡◌, refl, sym, ap, ◌∙◌}
 use mathlib.Core.Bool.{Bool, true, false, not, ◌&&◌}
 use mathlib.Core.List.{List, [], ◌∷◌, ◌++◌, append_assoc}
-use mathlib.Core.Option.{some}
 use Prim.Native.Nat.{ℕ, zero, suc, ◌+◌, ◌*◌, ◌-◌, ◌/◌, ◌%◌, ◌≤◌, ◌<◌}
 use native.Mathlib.Decide.{dec_lt}
 use native.Mathlib.Omega.{arith}
@@ -46,7 +46,7 @@ unfolding digits_from
 digits_stop n [] e = refl
 digits_stop n (c ∷ cs) e = rw e refl
 
-pub decimal_read : (n : ℕ) (rest : List ℕ) → digit_first rest ≡ false → number_from (decimal n ++ rest) ≡ some (record { number = n; rest = rest })
+pub decimal_read : (n : ℕ) (rest : List ℕ) → digit_first rest ≡ false → number_from (decimal n ++ rest) ≡ Some (record { number = n; rest = rest })
 unfolding number_from
 decimal_read n rest e = let r = reads_below n n rest (omega arith) in rw (r.0, r.1, digits_stop n rest e) refl
 

@@ -1,7 +1,7 @@
 -- Lines and texts, good and bad: by computation. Assumes nothing.
+use Rattle.std.specs.Prelude.{None, Some}
 use mathlib.Core.Path.{◌≡◌, refl}
 use mathlib.Core.List.{List, [], ◌∷◌}
-use mathlib.Core.Option.{none, some}
 use Prim.Native.Nat.{ℕ}
 use Rattle.rules.specs.Requests.{request_of, decode_request}
 use Rattle.rules.specs.Trace.{records}
@@ -11,10 +11,10 @@ use Rattle.listing.specs.Listing.{text_of, lines_of, each, turned_from, write, l
 
 -- the record of a line that is taken
 abbrev Takes : List ℕ → List ℕ → Type 0
-Takes l r = record_of l ≡ some r
+Takes l r = record_of l ≡ Some r
 
 abbrev Refuses : List ℕ → Type 0
-Refuses l = record_of l ≡ none
+Refuses l = record_of l ≡ None
 
 pub taken :
     Takes (ascii "19") (19 ∷ 0 ∷ 0 ∷ 0 ∷ 0 ∷ 0 ∷ 0 ∷ 0 ∷ 0 ∷ 0 ∷ 0 ∷ 0 ∷ [])
@@ -43,21 +43,21 @@ unfolding record_of number_from digits_from fields_from field_from spaced_from e
 bad = (refl, refl, refl, refl, refl, refl, refl, refl, refl, refl, refl, refl, refl, refl, refl, refl, refl, refl, refl, refl, refl, refl, refl, refl, refl, refl, refl, refl)
 
 pub texts :
-    (write (ascii "") ≡ record { done = []; bad = none })
-    × (write (ascii "\n") ≡ record { done = []; bad = some 0 })
-    × (write (ascii "17\n18\n") ≡ record { done = (17 ∷ 0 ∷ 0 ∷ 0 ∷ 0 ∷ 0 ∷ 0 ∷ 0 ∷ 0 ∷ 0 ∷ 0 ∷ 0 ∷ []) ∷ (18 ∷ 0 ∷ 0 ∷ 0 ∷ 0 ∷ 0 ∷ 0 ∷ 0 ∷ 0 ∷ 0 ∷ 0 ∷ 0 ∷ []) ∷ []; bad = none })
-    × (write (ascii "17\n18") ≡ record { done = (17 ∷ 0 ∷ 0 ∷ 0 ∷ 0 ∷ 0 ∷ 0 ∷ 0 ∷ 0 ∷ 0 ∷ 0 ∷ 0 ∷ []) ∷ []; bad = some 1 })
-    × (write (ascii "17\n\n18\n") ≡ record { done = (17 ∷ 0 ∷ 0 ∷ 0 ∷ 0 ∷ 0 ∷ 0 ∷ 0 ∷ 0 ∷ 0 ∷ 0 ∷ 0 ∷ []) ∷ []; bad = some 1 })
-    × (write (ascii "17\r\n18\n") ≡ record { done = []; bad = some 0 })
+    (write (ascii "") ≡ record { done = []; bad = None })
+    × (write (ascii "\n") ≡ record { done = []; bad = Some 0 })
+    × (write (ascii "17\n18\n") ≡ record { done = (17 ∷ 0 ∷ 0 ∷ 0 ∷ 0 ∷ 0 ∷ 0 ∷ 0 ∷ 0 ∷ 0 ∷ 0 ∷ 0 ∷ []) ∷ (18 ∷ 0 ∷ 0 ∷ 0 ∷ 0 ∷ 0 ∷ 0 ∷ 0 ∷ 0 ∷ 0 ∷ 0 ∷ 0 ∷ []) ∷ []; bad = None })
+    × (write (ascii "17\n18") ≡ record { done = (17 ∷ 0 ∷ 0 ∷ 0 ∷ 0 ∷ 0 ∷ 0 ∷ 0 ∷ 0 ∷ 0 ∷ 0 ∷ 0 ∷ []) ∷ []; bad = Some 1 })
+    × (write (ascii "17\n\n18\n") ≡ record { done = (17 ∷ 0 ∷ 0 ∷ 0 ∷ 0 ∷ 0 ∷ 0 ∷ 0 ∷ 0 ∷ 0 ∷ 0 ∷ 0 ∷ []) ∷ []; bad = Some 1 })
+    × (write (ascii "17\r\n18\n") ≡ record { done = []; bad = Some 0 })
 unfolding record_of number_from digits_from fields_from field_from spaced_from ended lines_of each turned_from
 texts = (refl, refl, refl, refl, refl, refl)
 
 pub listed :
     (list (8 ∷ 255 ∷ 0 ∷ 0 ∷ 255 ∷ 255 ∷ 255 ∷ 255 ∷ 254 ∷ 255 ∷ 255 ∷ 255 ∷ 19 ∷ 0 ∷ 0 ∷ 0 ∷ 0 ∷ 0 ∷ 0 ∷ 0 ∷ 0 ∷ 0 ∷ 0 ∷ 0 ∷ 7 ∷ [])
-    ≡ record { done = ascii "8 255 4294967295 4294967294" ∷ ascii "19" ∷ []; bad = some 2 })
-    × (list (19 ∷ 0 ∷ 0 ∷ 0 ∷ 0 ∷ 0 ∷ 0 ∷ 0 ∷ 0 ∷ 0 ∷ 0 ∷ 1 ∷ []) ≡ record { done = []; bad = some 0 })
+    ≡ record { done = ascii "8 255 4294967295 4294967294" ∷ ascii "19" ∷ []; bad = Some 2 })
+    × (list (19 ∷ 0 ∷ 0 ∷ 0 ∷ 0 ∷ 0 ∷ 0 ∷ 0 ∷ 0 ∷ 0 ∷ 0 ∷ 1 ∷ []) ≡ record { done = []; bad = Some 0 })
     × (text_of (ascii "17" ∷ ascii "2 3" ∷ []) ≡ ascii "17\n2 3\n")
-    × (line_of (3 ∷ 1 ∷ 5 ∷ 0 ∷ 2 ∷ 0 ∷ 0 ∷ 0 ∷ 0 ∷ 0 ∷ 0 ∷ 0 ∷ []) ≡ none)
-    × (line_of (25 ∷ 0 ∷ 0 ∷ 0 ∷ 0 ∷ 0 ∷ 0 ∷ 0 ∷ 0 ∷ 0 ∷ 0 ∷ 0 ∷ []) ≡ none)
+    × (line_of (3 ∷ 1 ∷ 5 ∷ 0 ∷ 2 ∷ 0 ∷ 0 ∷ 0 ∷ 0 ∷ 0 ∷ 0 ∷ 0 ∷ []) ≡ None)
+    × (line_of (25 ∷ 0 ∷ 0 ∷ 0 ∷ 0 ∷ 0 ∷ 0 ∷ 0 ∷ 0 ∷ 0 ∷ 0 ∷ 0 ∷ []) ≡ None)
 unfolding turned_from each records line_of line_text request_of decode_request digits decimal text_of
 listed = (refl, refl, refl, refl, refl)

@@ -1,9 +1,10 @@
 -- Both round trips of one line. A line that is made of a record is read back field by field; a line that is read is made of its fields' texts.
 -- Assumes nothing.
+use Rattle.std.proofs.lemmas.Option.{none-some, same_Some}
+use Rattle.std.specs.Prelude.{Option, None, Some}
 use mathlib.Core.Path.{◌≡◌, refl, sym, ap, ◌∙◌}
 use mathlib.Core.Bool.{true, false}
 use mathlib.Core.List.{List, [], ◌∷◌, ◌++◌, append-nil}
-use mathlib.Core.Option.{Option, none, some, some-injective, none-ne-some}
 use Prim.Native.Nat.{ℕ, ◌≤◌, ◌<◌}
 use native.Mathlib.Omega.{arith}
 use lib.Dec.{ltb}
@@ -47,7 +48,7 @@ module _ (operation o p n d : ℕ) (k : Kept operation o p n d) (operation≤ : 
         field_room u.parcel 9 {field = d} (omega arith),
       )
 
-  pub line_read : record_of (line_text k.by operation o p n d) ≡ some (record_bytes operation o p n d)
+  pub line_read : record_of (line_text k.by operation o p n d) ≡ Some (record_bytes operation o p n d)
   unfolding record_of line_text fields_from ended
   line_read =
       let u = k.by in
@@ -72,7 +73,7 @@ module _ (operation o p n d : ℕ) (k : Kept operation o p n d) (operation≤ : 
         field_read u.parcel most_word d [] refl d≤ k.parcel,
       ) refl
 
-pub taken_back : (r : List ℕ) → Bytes r → refused (decode_request r) ≡ false → (line_of r and_then record_of) ≡ some r
+pub taken_back : (r : List ℕ) → Bytes r → refused (decode_request r) ≡ false → (line_of r and_then record_of) ≡ Some r
 unfolding line_of
 taken_back r byte taken =
     let w = parts_of r taken in
@@ -82,26 +83,26 @@ taken_back r byte taken =
     (omega (arith, byte 0)) (omega (arith, byte 1)) (omega (arith, byte 2))
     (word_most (get_or r 4 0) (get_or r 5 0) (get_or r 6 0) (get_or r 7 0) (byte 4) (byte 5) (byte 6) (byte 7))
     (word_most (get_or r 8 0) (get_or r 9 0) (get_or r 10 0) (get_or r 11 0) (byte 8) (byte 9) (byte 10) (byte 11))
-    ∙ ap some (sym (record_made r byte w.long w.zeroed)))
+    ∙ ap Some (sym (record_made r byte w.long w.zeroed)))
 
 pub listed : Listed
 listed r byte q e = taken_back r byte (ap refused e)
 
-line_taken : (r l : List ℕ) → line_of r ≡ some l → refused (decode_request r) ≡ false
+line_taken : (r l : List ℕ) → line_of r ≡ Some l → refused (decode_request r) ≡ false
 unfolding line_of
 line_taken r l e =
-    (unless_some (refused (decode_request r)) (operation_of (get_or r 0 0) and_then λ u. some (line_text u (get_or r 0 0) (get_or r 1 0) (get_or r 2 0) (word_at r 4) (word_at r 8))) l e).0
+    (unless_some (refused (decode_request r)) (operation_of (get_or r 0 0) and_then λ u. Some (line_text u (get_or r 0 0) (get_or r 1 0) (get_or r 2 0) (word_at r 4) (word_at r 8))) l e).0
 
 -- the same of a line that is known
-pub line_back : (r l : List ℕ) → Bytes r → line_of r ≡ some l → record_of l ≡ some r
+pub line_back : (r l : List ℕ) → Bytes r → line_of r ≡ Some l → record_of l ≡ Some r
 line_back r l byte e = ap (λ (m : Option (List ℕ)). m and_then record_of) (sym e) ∙ taken_back r byte (line_taken r l e)
 
 -- FROM A LINE TO ITS RECORD AND BACK
 
-ended_of : (r t s : List ℕ) → ended r t ≡ some s → (t ≡ []) × (r ≡ s)
+ended_of : (r t s : List ℕ) → ended r t ≡ Some s → (t ≡ []) × (r ≡ s)
 unfolding ended
-ended_of r [] s e = (refl, some-injective r s e)
-ended_of r (c ∷ cs) s e = absurd (none-ne-some s e)
+ended_of r [] s e = (refl, same_Some _ _ e)
+ended_of r (c ∷ cs) s e = absurd (none-some s e)
 
 -- what a line that is taken is made of
 pub record Read (l r : List ℕ) : Type 0 where
@@ -111,8 +112,8 @@ pub record Read (l r : List ℕ) : Type 0 where
   pub p : Front
   pub n : Front
   pub d : Front
-  pub first : number_from l ≡ some a
-  pub there : operation_of a.number ≡ some by
+  pub first : number_from l ≡ Some a
+  pub there : operation_of a.number ≡ Some by
   pub object : Field by.object most_byte a.rest o
   pub priority : Field by.priority most_byte o.rest p
   pub number : Field by.number most_word p.rest n
@@ -120,7 +121,7 @@ pub record Read (l r : List ℕ) : Type 0 where
   pub ends : d.rest ≡ []
   pub made : record_bytes a.number o.number p.number n.number d.number ≡ r
 
-pub read : (l r : List ℕ) → record_of l ≡ some r → Read l r
+pub read : (l r : List ℕ) → record_of l ≡ Some r → Read l r
 unfolding record_of fields_from
 read l r e =
     let line = unless_some (ltb line_most (length l)) (number_from l and_then λ a. operation_of a.number and_then λ u. fields_from u a) r e in
@@ -150,7 +151,7 @@ read l r e =
     }
 
 -- a line that is taken has no line feed
-pub taken_clean : (l r : List ℕ) → record_of l ≡ some r → clean l ≡ true
+pub taken_clean : (l r : List ℕ) → record_of l ≡ Some r → clean l ≡ true
 taken_clean l r e =
     let w = read l r e in
     number_clean l w.a w.first (w.object.clear (w.priority.clear (w.number.clear (w.parcel.clear (ap clean w.ends)))))
@@ -184,7 +185,7 @@ line_plain {l} w h =
     ∙ ap (λ (t : List ℕ). field_text w.by.priority w.p.number ++ t) (N.0
     ∙ ap (λ (t : List ℕ). field_text w.by.number w.n.number ++ t) last))))
 
-made_line : (operation o p n d : ℕ) (k : Kept operation o p n d) → line_of (record_bytes operation o p n d) ≡ some (line_text k.by operation o p n d)
+made_line : (operation o p n d : ℕ) (k : Kept operation o p n d) → line_of (record_bytes operation o p n d) ≡ Some (line_text k.by operation o p n d)
 unfolding line_of
 made_line operation o p n d k =
     let fields = fields_back operation o p n d in
@@ -195,10 +196,10 @@ unfolding kept_read
 written l r e h =
     let w = read l r e in
     ap line_of (sym w.made) ∙ made_line w.a.number w.o.number w.p.number w.n.number w.d.number (kept_read w)
-    ∙ ap some (line_plain w h)
+    ∙ ap Some (line_plain w h)
 
 -- A LINE THAT IS TOO LONG
 
-pub too_long_lem : (line : List ℕ) → line_most < length line → none ≡ record_of line
+pub too_long_lem : (line : List ℕ) → line_most < length line → None ≡ record_of line
 unfolding record_of
 too_long_lem line h = rw (lt-ltb line_most (length line) h) refl

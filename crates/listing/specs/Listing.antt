@@ -1,8 +1,7 @@
 -- A whole listing and its records. Order 2: "Every line ends in a line feed." A bad line "stops the writer there with the earlier records out.
 -- Refusals: bad line, with its number from 0." Records go to a listing in the same way.
 use mathlib.Core.List.{List, [], ◌∷◌, ◌++◌, flatten}
-use Rattle.std.proofs.Math.Option.{Option, none, some}
-use Rattle.std.specs.Prelude.{if◌then◌else◌, ℕ, suc, eqb}
+use Rattle.std.specs.Prelude.{if◌then◌else◌, ℕ, suc, eqb, Option, None, Some}
 use Rattle.rules.specs.Trace.{whole_records}
 use Rattle.text.specs.Text.{ascii, decimal}
 use Rattle.parts.specs.LeftOver.{left_over}
@@ -65,13 +64,13 @@ pub record Out : Type 0 where
   pub bad : Option ℕ
 
 abbrev pub joined : Option (List ℕ) → ℕ → Out → Out
-joined none k out = record { done = []; bad = some k }
-joined (some x) k out = record { done = x ∷ out.done; bad = out.bad }
+joined None k out = record { done = []; bad = Some k }
+joined (Some x) k out = record { done = x ∷ out.done; bad = out.bad }
 
 -- each by a rule, from number k on, up to the first that the rule refuses; what is left over is refused as well
 unfoldable pub each : (List ℕ → Option (List ℕ)) → ℕ → List (List ℕ) → List ℕ → Out
-each rule k [] [] = record { done = []; bad = none }
-each rule k [] (c ∷ cs) = record { done = []; bad = some k }
+each rule k [] [] = record { done = []; bad = None }
+each rule k [] (c ∷ cs) = record { done = []; bad = Some k }
 each rule k (x ∷ xs) rest = joined (rule x) k (each rule (suc k) xs rest)
 
 -- what comes out of an input whose first piece has number k
@@ -96,5 +95,5 @@ bad_what ToListing = ascii "bad record "
 
 -- order 2: "bad line, with its number from 0", where there is one
 abbrev pub refusal_text : Way → Option ℕ → List ℕ
-refusal_text w none = []
-refusal_text w (some k) = bad_what w ++ (decimal k ++ ascii "\n")
+refusal_text w None = []
+refusal_text w (Some k) = bad_what w ++ (decimal k ++ ascii "\n")

@@ -1,8 +1,7 @@
 -- An input that comes in parts, as a program reads it: where it stands between two of them, and what comes out of each. However the input is
 -- cut into parts, what comes out of them one after the other is what comes out of the whole.
-use Rattle.std.specs.Prelude.{if◌then◌else◌, Bool, true, false, ◌||◌, ◌≡◌, ℕ, ◌+◌, ltb, length}
+use Rattle.std.specs.Prelude.{if◌then◌else◌, Bool, true, false, ◌||◌, ◌≡◌, ℕ, ◌+◌, ltb, length, Option, None, Some}
 use mathlib.Core.List.{List, [], ◌∷◌, ◌++◌, flatten}
-use Rattle.std.proofs.Math.Option.{Option, none, some}
 use Rattle.listing.specs.Line.{line_most}
 use Rattle.listing.specs.Listing.{Out, cut, rule, each, turned}
 use Rattle.listing.specs.declared.Way.{Way}
@@ -15,8 +14,8 @@ unfoldable pub part_of : Way → List ℕ → Out
 part_of w come = each (rule w) 0 (cut w come).pieces []
 
 abbrev pub is_bad : Option ℕ → Bool
-is_bad none = false
-is_bad (some k) = true
+is_bad None = false
+is_bad (Some k) = true
 
 -- order 2: "A line of over 40 characters". One that has so many and has not ended yet is bad already
 abbrev pub too_long : Way → ℕ → Bool
@@ -56,7 +55,7 @@ is_some (c ∷ cs) = true
 
 -- no more comes: what is held then is bad
 abbrev pub last : Stand → Option ℕ
-last s = if s.stopped || is_some s.held then some s.number else none
+last s = if s.stopped || is_some s.held then Some s.number else None
 
 unfoldable pub out_of_all : Way → Stand → List (List ℕ) → Out
 out_of_all w s [] = record { done = []; bad = last s }

@@ -1,16 +1,14 @@
 -- How many of the numbers below n pass a test: from anywhere around, one alone, of a list's elements, and in a loop. Assumes nothing.
-use mathlib.Core.Bool.{Bool, true, false, ◌&&◌}
-use mathlib.Core.Path.{◌≡◌, refl, ap, sym, ◌∙◌}
-use mathlib.Core.Logic.{◌↔◌}
+use mathlib.Core.Bool.{Bool, true, false}
+use mathlib.Core.Path.{◌≡◌, refl, ap, ◌∙◌}
 use mathlib.Core.List.{List, [], ◌∷◌}
 use Prim.Native.Nat.{ℕ, zero, suc, ◌+◌, ◌-◌, ◌≤◌, ◌<◌}
 use native.Mathlib.Nat.{add-suc, add-zero}
 use native.Mathlib.Omega.{arith}
 use native.Mathlib.Decide.{ℕ_discrete}
-use lib.Bits.{bit_and}
 use lib.ListN.{length, get_or}
+use Rattle.std.specs.Int.{from_bool}
 use Rattle.rules.specs.Basic.{bit, count}
-use Rattle.laws.proofs.Split.{clash}
 use Rattle.places.specs.Rings.{count_below}
 
 bit_most : (b : Bool) → bit b ≤ 1
@@ -75,27 +73,8 @@ pub count_list : {A : Type 0} (f : A → Bool) (d : A) (xs : List A) → count_b
 count_list f d [] = refl
 count_list f d (x ∷ xs) = omega (arith, count_front (length xs) (λ k. f (get_or (x ∷ xs) k d)), count_list f d xs)
 
--- A LOOP OVER A PART OF THE ENTRIES
+-- A TRUTH AS A BYTE
 
-module _ (f : ℕ → Bool) (from : ℕ) where
-  pub counted_none : 0 ≡ count_below (from - from) (λ m. f (from + m))
-  counted_none = let e : 0 ≡ from - from = omega arith in ap (λ n. count_below n (λ m. f (from + m))) e
-
-  pub counted_more : (k : ℕ) → from ≤ k → count_below (k - from) (λ m. f (from + m)) + bit (f k) ≡ count_below (k + 1 - from) (λ m. f (from + m))
-  counted_more k h =
-      let e : from + (k - from) ≡ k = omega arith in
-      let l : suc (k - from) ≡ k + 1 - from = omega arith in
-      ap (λ m. count_below (k - from) (λ m. f (from + m)) + bit (f m)) (sym e) ∙ ap (λ n. count_below n (λ m. f (from + m))) l
-
-  pub counted_all : (n k : ℕ) → k ≡ from + n → count_below (k - from) (λ m. f (from + m)) ≡ count_below n (λ m. f (from + m))
-  counted_all n k h = let e : k - from ≡ n = omega arith in ap (λ n. count_below n (λ m. f (from + m))) e
-
--- two tests at once
-pub both : {a b : ℕ} (x y : Bool) → a ≡ bit x → b ≡ bit y → (bit_and a b ≡ 0) ↔ (x && y ≡ false)
-both x y p q = rw (p, q) (bits x y)
-  where
-    bits : (x y : Bool) → (bit_and (bit x) (bit y) ≡ 0) ↔ (x && y ≡ false)
-    bits true true = (λ e. absurd (omega arith), λ e. absurd (clash refl e))
-    bits true false = (λ e. refl, λ e. refl)
-    bits false true = (λ e. refl, λ e. refl)
-    bits false false = (λ e. refl, λ e. refl)
+pub byte_most : (b : Bool) → from_bool b ≤ 1
+byte_most true = omega arith
+byte_most false = omega arith

@@ -10,8 +10,9 @@ use native.Mathlib.Omega.{arith}
 use native.Mathlib.Decide.{dec_le, dec_lt}
 use borrow.Author.Tests.{eqb-true, eq-eqb}
 use lib.Dec.{eqb}
-use lib.ListN.{length, get_or, take, drop, get_or-append}
-use lib.Seq.{paste, length-paste, length_paste_head, length-take-le, get_or-take, get_or-append-add}
+use lib.ListN.{length, get_or, take, drop, length-drop, get_or-append}
+use lib.Seq.{paste, length_paste_head, length-take-le, get_or-take, get_or-drop, get_or-append-add}
+use Rattle.std.specs.List.{copy_within}
 use Rattle.rules.specs.Basic.{all_below}
 use Rattle.laws.proofs.Split.{is, isnt, test, clash, and_true, and_both}
 use Rattle.laws.proofs.Reflect.{reflect}
@@ -19,53 +20,75 @@ use Rattle.laws.proofs.Counts.{below_at, below_of}
 use Rattle.places.specs.Rings.{count_below, entry_in, entry_at, placed, half, closed, Near}
 use Rattle.places.proofs.Below.{count_same, count_round, count_once, once_alone}
 
--- THE ENTRIES OF A RING
+-- A PART OF A RING
 
--- a copy of the first i entries keeps the length
-pub copy_long : (xs : List ℕ) {ring : List ℕ} (n i : ℕ) → n + n ≤ length xs → i ≤ n → ring ≡ paste xs n xs i → length ring ≡ length xs
-copy_long xs n i long h e = ap length e ∙ length-paste xs n xs i (omega arith) (omega arith)
+-- the n entries from one on, as a part of a list
+module _ (from n : ℕ) where
+  abbrev part : List ℕ → List ℕ
+  part xs = take (from + n - from) (drop from xs)
 
--- what is before the copy stays
-pub front_stays : (xs : List ℕ) (n i k : ℕ) → n ≤ length xs → i ≤ length xs → k < n → get_or (paste xs n xs i) k 0 ≡ get_or xs k 0
-front_stays xs n i k h l q =
-    get_or-append (take n xs ++ take i xs) (drop (n + i) xs) 0 k (omega (arith, length_paste_head xs n xs i h l))
-    ∙ get_or-append (take n xs) (take i xs) 0 k (omega (arith, length-take-le n xs h))
-    ∙ get_or-take n xs k 0 q
+  part_long : (xs : List ℕ) → from + n ≤ length xs → length (part xs) ≡ n
+  part_long xs h = length-take-le (from + n - from) (drop from xs) (omega (arith, length-drop from xs)) ∙ omega arith
 
--- above them they come once more
-pub back_again : (xs : List ℕ) (n k : ℕ) → n ≤ length xs → k < n → get_or (paste xs n xs n) (n + k) 0 ≡ get_or xs k 0
-back_again xs n k h q =
-    let l = length-take-le n xs h in
-    get_or-append (take n xs ++ take n xs) (drop (n + n) xs) 0 (n + k) (omega (arith, length_paste_head xs n xs n h h))
-    ∙ ap (λ m. get_or (take n xs ++ take n xs) (m + k) 0) (sym l)
-    ∙ get_or-append-add (take n xs) (take n xs) k 0
-    ∙ get_or-take n xs k 0 q
+  part_at : (xs : List ℕ) (k : ℕ) → k < n → get_or (part xs) k 0 ≡ get_or xs (from + k) 0
+  part_at xs k h = get_or-take (from + n - from) (drop from xs) k 0 (omega arith) ∙ get_or-drop from xs k 0
+
+  pub part_count : (lines : List ℕ) (line : ℕ) → from + n ≤ length lines
+      → count_below (length (part lines)) (entry_in (part lines) line) ≡ count_below n (λ k. entry_in lines line (from + k))
+  part_count lines line h = rw (part_long lines h) (count_same n (entry_in (part lines) line) (λ k. entry_in lines line (from + k)) (λ k q. ap (λ x. eqb x line) (part_at lines k q)))
+
+  pub part_free : (lines places : List ℕ) (line place : ℕ) → from + n ≤ length lines
+      → ((k : ℕ) → k < length (part lines) → entry_at (part lines) (part places) line place k ≡ false) ↔ ((k : ℕ) → k < n → entry_at lines places line place (from + k) ≡ false)
+  part_free lines places line place h = rw (part_long lines h) (
+    λ f k q. rw (← part_at lines k q, ← part_at places k q) (f k q),
+    λ f k q. rw (part_at lines k q, part_at places k q) (f k q),
+  )
+
+-- TWICE
+
+-- so many entries, and the same once more behind them
+pub record Twice (n : ℕ) (ring xs : List ℕ) : Type 0 where
+  pub front : (k : ℕ) → k < n → get_or ring k 0 ≡ get_or xs k 0
+  pub back : (k : ℕ) → k < n → get_or ring (n + k) 0 ≡ get_or xs k 0
+
+pub copied : (n : ℕ) (xs : List ℕ) → copy_within xs 0 n n ≡ closed n xs
+copied n xs = let e : n - 0 ≡ n = omega arith in ap (paste xs n xs) e
 
 module _ (n : ℕ) (xs : List ℕ) (long : n + n ≤ length xs) where
-  at_front : (k : ℕ) → k < n → get_or (closed n xs) k 0 ≡ get_or xs k 0
-  at_front k h = front_stays xs n n k (omega arith) (omega arith) h
+  pub closed_twice : Twice n (closed n xs) xs
+  closed_twice =
+      let l : length (take n xs) ≡ n = length-take-le n xs (omega arith) in
+      let head = length_paste_head xs n xs n (omega arith) (omega arith) in
+      record {
+        front = λ k h.
+            get_or-append (take n xs ++ take n xs) (drop (n + n) xs) 0 k (omega (arith, head))
+            ∙ get_or-append (take n xs) (take n xs) 0 k (omega (arith, l))
+            ∙ get_or-take n xs k 0 h;
+        back = λ k h.
+            get_or-append (take n xs ++ take n xs) (drop (n + n) xs) 0 (n + k) (omega (arith, head))
+            ∙ ap (λ m. get_or (take n xs ++ take n xs) (m + k) 0) (sym l)
+            ∙ get_or-append-add (take n xs) (take n xs) k 0
+            ∙ get_or-take n xs k 0 h;
+      }
 
-  at_back : (k : ℕ) → k < n → get_or (closed n xs) (n + k) 0 ≡ get_or xs k 0
-  at_back k h = back_again xs n k (omega arith) h
-
-  at_own : (j : ℕ) → j < n → get_or (closed n xs) (j + n) 0 ≡ get_or xs j 0
-  at_own j h = let e : j + n ≡ n + j = omega arith in ap (λ k. get_or (closed n xs) k 0) e ∙ at_back j h
+module _ {n : ℕ} {ring xs : List ℕ} (two : Twice n ring xs) where
+  own : (j : ℕ) → j < n → get_or ring (j + n) 0 ≡ get_or xs j 0
+  own j h = let e : j + n ≡ n + j = omega arith in ap (λ k. get_or ring k 0) e ∙ two.back j h
 
   -- the length of a line, asked from anywhere
-  length_round : (line from : ℕ) → from ≤ n
-      → count_below n (λ k. entry_in (closed n xs) line (from + k)) ≡ count_below n (entry_in xs line)
+  length_round : (line from : ℕ) → from ≤ n → count_below n (λ k. entry_in ring line (from + k)) ≡ count_below n (entry_in xs line)
   length_round line from h =
-      count_round n from (entry_in (closed n xs) line) h (λ k q. ap (λ x. eqb x line) (at_back k q ∙ sym (at_front k q)))
-      ∙ count_same n (entry_in (closed n xs) line) (entry_in xs line) (λ k q. ap (λ x. eqb x line) (at_front k q))
+      count_round n from (entry_in ring line) h (λ k q. ap (λ x. eqb x line) (two.back k q ∙ sym (two.front k q)))
+      ∙ count_same n (entry_in ring line) (entry_in xs line) (λ k q. ap (λ x. eqb x line) (two.front k q))
 
 -- WELL PLACED
 
-module _ (n : ℕ) (lines places : List ℕ) (even : half n + half n ≡ n) (lines_long : n + n ≤ length lines) (places-long : n + n ≤ length places) where
-  entry_front : (line place k : ℕ) → k < n → entry_at (closed n lines) (closed n places) line place k ≡ entry_at lines places line place k
-  entry_front line place k h = rw (at_front n lines lines_long k h, at_front n places places-long k h)
+module _ (n : ℕ) (even : half n + half n ≡ n) {lines places ring_lines ring_places : List ℕ} (l : Twice n ring_lines lines) (p : Twice n ring_places places) where
+  entry_front : (line place k : ℕ) → k < n → entry_at ring_lines ring_places line place k ≡ entry_at lines places line place k
+  entry_front line place k h = rw (l.front k h, p.front k h)
 
-  entry_back : (line place k : ℕ) → k < n → entry_at (closed n lines) (closed n places) line place (n + k) ≡ entry_at lines places line place k
-  entry_back line place k h = rw (at_back n lines lines_long k h, at_back n places places-long k h)
+  entry_back : (line place k : ℕ) → k < n → entry_at ring_lines ring_places line place (n + k) ≡ entry_at lines places line place k
+  entry_back line place k h = rw (l.back k h, p.back k h)
 
   own_entry : (j : ℕ) → entry_at lines places (get_or lines j 0) (get_or places j 0) j ≡ true
   own_entry j = and_both _ _ (eq-eqb (get_or lines j 0) _ refl) (eq-eqb (get_or places j 0) _ refl)
@@ -79,14 +102,14 @@ module _ (n : ℕ) (lines places : List ℕ) (even : half n + half n ≡ n) (lin
     above : (get_or lines j 0 ≡ 0 → ⊥) → (k : ℕ) → k < n → j + half n ≤ k → entry_at lines places (get_or lines j 0) (get_or places j 0) k ≡ false
     below : (get_or lines j 0 ≡ 0 → ⊥) → (k : ℕ) → k < j → j ≤ k + half n → entry_at lines places (get_or lines j 0) (get_or places j 0) k ≡ false
 
-  near_asks : (j : ℕ) → j < n → Near n (closed n lines) (closed n places) j → Asks j
+  near_asks : (j : ℕ) → j < n → Near n ring_lines ring_places j → Asks j
   near_asks j h w =
-      let line = at_own n lines lines_long j h in
-      let place = at_own n places places-long j h in
+      let line = own l j h in
+      let place = own p j h in
       record {
         nowhere = rw (line, place) at w.nowhere;
         low = rw (line, place) at w.low;
-        high = λ on. omega (arith, length_round n lines lines_long (get_or lines j 0) j (omega arith), rw (line, place) at w.high on);
+        high = λ on. omega (arith, length_round l (get_or lines j 0) j (omega arith), rw (line, place) at w.high on);
         above = λ on k q l.
             let e : j + half n + (k - (j + half n)) ≡ k = omega arith in
             sym (entry_front _ _ k q) ∙ rw (line, place, e) at (w.alone (rw line on) (k - (j + half n)) (omega arith));
@@ -95,19 +118,19 @@ module _ (n : ℕ) (lines places : List ℕ) (even : half n + half n ≡ n) (lin
             sym (entry_back _ _ k (omega arith)) ∙ rw (line, place, e) at (w.alone (rw line on) (k + half n - j) (omega arith));
       }
 
-  asks_near : (j : ℕ) → j < n → Asks j → Near n (closed n lines) (closed n places) j
+  asks_near : (j : ℕ) → j < n → Asks j → Near n ring_lines ring_places j
   asks_near j h a =
-      let line = at_own n lines lines_long j h in
-      let place = at_own n places places-long j h in
+      let line = own l j h in
+      let place = own p j h in
       record {
         nowhere = rw (line, place) a.nowhere;
         low = rw (line, place) a.low;
-        high = rw (line, place) (λ on. omega (arith, length_round n lines lines_long (get_or lines j 0) j (omega arith), a.high on));
+        high = rw (line, place) (λ on. omega (arith, length_round l (get_or lines j 0) j (omega arith), a.high on));
         alone = rw (line, place) (λ on k q. elim (dec_lt (j + half n + k) n) [
-          | yes l ↦ entry_front _ _ (j + half n + k) l ∙ a.above on (j + half n + k) l (omega arith)
+          | yes q ↦ entry_front _ _ (j + half n + k) q ∙ a.above on (j + half n + k) q (omega arith)
           | no l ↦
               let e : j + half n + k ≡ n + (j + half n + k - n) = omega arith in
-              ap (entry_at (closed n lines) (closed n places) (get_or lines j 0) (get_or places j 0)) e ∙ entry_back _ _ (j + half n + k - n) (omega arith)
+              ap (entry_at ring_lines ring_places (get_or lines j 0) (get_or places j 0)) e ∙ entry_back _ _ (j + half n + k - n) (omega arith)
               ∙ a.below on (j + half n + k - n) (omega arith) (omega arith)
         ]);
       }
@@ -153,7 +176,7 @@ module _ (n : ℕ) (lines places : List ℕ) (even : half n + half n ≡ n) (lin
         below = λ on k q l. only on k (omega arith) (omega arith);
       }
 
-  pub ring_says : ((j : ℕ) → j < n → Near n (closed n lines) (closed n places) j) ↔ (all_below n (placed n lines places) ≡ true)
+  pub ring_says : ((j : ℕ) → j < n → Near n ring_lines ring_places j) ↔ (all_below n (placed n lines places) ≡ true)
   ring_says = (
     λ near. below_of n (placed n lines places) (asks_placed (λ j h. near_asks j h (near j h))),
     λ ok j h. asks_near j h (placed_asks j h (below_at n (placed n lines places) ok j h)),

@@ -4,6 +4,11 @@ use Rattle.std.proofs.Math.Seq.{paste}
 use Rattle.rules.specs.Basic.{bit}
 use Rattle.rules.specs.Board.{most_threads}
 
+-- what is noted of the threads
+pub record Entries : Type 0 where
+  pub lines : List ℕ
+  pub places : List ℕ
+
 -- how many of the numbers below n pass
 abbrev pub count_below : ℕ → (ℕ → Bool) → ℕ
 count_below zero test = 0

@@ -1,5 +1,5 @@
 -- A step is safe when it leaves a sound state: what a ladder of tests, a refusal and an acceptance come to. Assumes nothing.
-use Rattle.std.specs.Prelude.{if◌then◌else◌}
+use Rattle.std.specs.Prelude.{if◌then◌else◌, Err, Ok}
 use mathlib.Core.Bool.{Bool, true, false, ◌||◌}
 use mathlib.Core.Path.{◌≡◌, refl}
 use mathlib.Core.Logic.{◌≢◌}
@@ -15,8 +15,8 @@ use Rattle.rules.specs.Waiting.{Step, begun, ahead, block, may_not_wait, never_w
 use Rattle.rules.specs.Threads.{bad_priority, bad_ticks, bound}
 use Rattle.rules.specs.Sound.{Sound}
 use Rattle.rules.specs.declared.Thread.{Thread}
-use Rattle.rules.specs.declared.Answer.{Answer}
-use Rattle.rules.specs.declared.Answer.TheVariants.{Blocked, Refused}
+use Rattle.rules.specs.Answers.{Answer}
+use Rattle.rules.specs.declared.Reply.TheVariants.{Blocked}
 use Rattle.rules.specs.declared.Refusal.TheVariants.{BadOperation}
 use Rattle.rules.specs.declared.Wait.{Wait}
 use Rattle.laws.proofs.Split.{and_off, or_false, if_case}
@@ -63,11 +63,11 @@ module _ (s : State) (σ : Sound s) where
 
   pub safe_block : (w : Wait) (x : ℕ) → may_not_wait s ≡ false → Begins (asks s) s.running (caller s) w x → Safe (block s w x)
   unfolding block
-  safe_block w x e g = safe_threads s _ (Blocked (ahead s w)) σ (blocks w x e g)
+  safe_block w x e g = safe_threads s _ (Ok (Blocked (ahead s w))) σ (blocks w x e g)
 
   pub safe_wait : (n : ℕ) (w : ℕ → Wait) (x : ℕ) → ((c : ℕ) → c ≤ most_ticks → Begins (asks s) s.running (caller s) (w c) x) → Safe (must_wait s n w x)
   unfolding must_wait
-  safe_wait n w x g = safe_if (never_wait n || may_not_wait s) _ _ (λ e. safe_same s (Refused BadOperation) σ)
+  safe_wait n w x g = safe_if (never_wait n || may_not_wait s) _ _ (λ e. safe_same s (Err BadOperation) σ)
       (λ e. safe_block (w (wait_counter n)) x (or_false (never_wait n) (may_not_wait s) e).1 (g (wait_counter n) (wait_counter_lem n)))
 
 -- WHAT THE TESTS SAY

@@ -1,6 +1,6 @@
 -- The value beside code 1 is what the bytes say: only Delay, Send, Receive, Pend and Outcome answer 1, a call that waits says how many
 -- threads stand in its line, and a thread stands in a line of senders or of waiters exactly when its record says so. Assumes nothing.
-use Rattle.std.specs.Prelude.{if◌then◌else◌}
+use Rattle.std.specs.Prelude.{if◌then◌else◌, Ok}
 use mathlib.Core.Bool.{Bool, true, false, ◌&&◌, ◌||◌}
 use mathlib.Core.Path.{◌≡◌, refl, ap, sym, ◌∙◌}
 use mathlib.Core.List.{List, [], ◌∷◌, map}
@@ -27,7 +27,7 @@ use Rattle.rules.specs.declared.Thread.{Thread}
 use Rattle.rules.specs.declared.Wait.{Wait}
 use Rattle.rules.specs.declared.Wait.TheVariants.{Nothing, Delay, Receive, Send, Semaphore}
 use Rattle.rules.specs.declared.Outcome as Outcome
-use Rattle.rules.specs.declared.Answer.TheVariants.{Done}
+use Rattle.rules.specs.declared.Reply.TheVariants.{Done}
 use Rattle.rules.specs.declared.Refusal.{Refusal}
 use Rattle.rules.specs.declared.Refusal.TheVariants.{BadOperation}
 use Rattle.rules.specs.declared.Request.{Request}
@@ -79,7 +79,7 @@ pub record Tells (n : ℕ) (x : Step) : Type 0 where
 refuses : (n : ℕ) (s : State) (why : Refusal) → Tells n (refuse s why)
 refuses n s why = record { value = λ e. let x = below_zero why in let c : negsuc x.0 ≡ pos 1 = rw x.1 at e in let z : ◌≡◌ {A = ℕ} 0 1 = cc in absurd (omega arith) }
 
-accepts : (n : ℕ) (s : State) (v : ℕ) → Tells n (record { state = s; answer = Done v })
+accepts : (n : ℕ) (s : State) (v : ℕ) → Tells n (record { state = s; answer = Ok (Done v) })
 accepts n s v = record { value = λ e. let z : ◌≡◌ {A = ℕ} 0 1 = cc in absurd (omega arith) }
 
 branch : (n : ℕ) (b : Bool) (x y : Step) → Tells n x → Tells n y → Tells n (if b then x else y)

@@ -1,6 +1,6 @@
 -- The former Set is operations 24 and 23, in either order. A turn leaves a thread in its line, so that who stands behind it moves up as before;
 -- a counter that is filled twice is filled; and of two settlings the second decides. Assumes nothing.
-use Rattle.std.specs.Prelude.{if◌then◌else◌}
+use Rattle.std.specs.Prelude.{if◌then◌else◌, Err, Ok}
 use mathlib.Core.Bool.{Bool, true, false, not, ◌&&◌, and-false}
 use mathlib.Core.Path.{◌≡◌, refl, ap, sym, ◌∙◌}
 use mathlib.Core.List.{List}
@@ -25,7 +25,7 @@ use Rattle.rules.specs.Door.{answered, serve_decoded, door}
 use Rattle.rules.specs.declared.Thread.{Thread}
 use Rattle.rules.specs.declared.Wait.{Wait}
 use Rattle.rules.specs.declared.Wait.TheVariants.{Nothing, Delay, Receive, Send, Semaphore}
-use Rattle.rules.specs.declared.Answer.TheVariants.{Done, Refused}
+use Rattle.rules.specs.declared.Reply.TheVariants.{Done}
 use Rattle.rules.specs.declared.Refusal.{Refusal}
 use Rattle.rules.specs.declared.Request.{Request}
 use Rattle.rules.specs.declared.Request.TheVariants as Ask
@@ -121,7 +121,7 @@ settled_again s us vs = elim (test (eqb s.lock 0)) [ is e ↦ rw (e, e) | isnt e
 
 -- WHAT IS ACCEPTED
 
-refused_not : (why : Refusal) → Refused why ≡ Done 0 → ⊥
+refused_not : (why : Refusal) → Err why ≡ Ok (Done 0) → ⊥
 refused_not why e = let z : ◌≡◌ {A = ℕ} 0 1 = cc in omega arith
 
 -- thread i is in use, and is not Init
@@ -130,7 +130,7 @@ record Open (s : State) (i : ℕ) : Type 0 where
   other : eqb i 0 ≡ false
 
 abbrev Done0 : Step → Type 0
-Done0 r = r.answer ≡ Done 0
+Done0 r = r.answer ≡ Ok (Done 0)
 
 turn_open : (s : State) (i n : ℕ) → Done0 (do_set_turn s i n) → (bad_ticks n ≡ false) × Open s i
 unfolding do_set_turn
@@ -291,7 +291,7 @@ former_set_lem = record {
 goes_not : (s : State) (i : ℕ) → goes s i (at s.threads i).priority ≡ false
 goes_not s i = let p = (at s.threads i).priority in rw (eq-eqb p p refl) (and-false (is_ready (at s.threads i)))
 
-unchanged : (s : State) (i : ℕ) → Sound s → Open s i → do_set_priority s i (at s.threads i).priority ≡ record { state = s; answer = Done 0 }
+unchanged : (s : State) (i : ℕ) → Sound s → Open s i → do_set_priority s i (at s.threads i).priority ≡ record { state = s; answer = Ok (Done 0) }
 unchanged s i σ o =
     let p = (at s.threads i).priority in
     ranked s i p (le-ltb top_priority p (σ.threads i (simp reflect at o.used)).priority) o
@@ -304,4 +304,4 @@ same_priority b t a i σ l low u =
     let o : Open s i = record { used = ap not u; other = ne_eqb i 0 (omega arith) } in
     called b t a (Ask.SetPriority i (at s.threads i).priority) σ l
     ∙ ap (λ r. answered (encode r.state) r.answer) (unchanged s i σ.state o)
-    ∙ ap (λ t. answered t (Done 0)) (sym σ.meaning)
+    ∙ ap (λ t. answered t (Ok (Done 0))) (sym σ.meaning)

@@ -1,9 +1,10 @@
 -- The decoder's tests are document 01's condition for −8: the table of uses agrees with the decoder's line by line, and a word is zero
 -- exactly when its four bytes are. Assumes nothing.
+use Rattle.std.proofs.lemmas.Option.{none-some}
+use Rattle.std.specs.Prelude.{None, Option, Some}
 use mathlib.Core.Bool.{Bool, true, false, or-true, or-false}
 use mathlib.Core.Path.{◌≡◌, refl, sym, ap, ◌∙◌}
 use mathlib.Core.List.{List, [], ◌∷◌, map}
-use mathlib.Core.Option.{Option, none, some, none-ne-some}
 use Prim.Native.Nat.{ℕ, zero, suc, ◌+◌, ◌≤◌, ◌<◌}
 use native.Mathlib.Decide.{ℕ_discrete}
 use native.Mathlib.Omega.{arith}
@@ -13,8 +14,6 @@ use lib.ListN.{length, get_or, get_or-eq_default}
 use Rattle.rules.specs.Table.{word_at}
 use Rattle.rules.specs.Requests.{Operation, operations, operation_of, kept, decode_request}
 use Rattle.rules.specs.declared.Request.{Request}
-use Rattle.rules.specs.declared.Decoded.{Decoded}
-use Rattle.rules.specs.declared.Decoded.TheVariants.{Asked, Bad}
 use Rattle.laws.proofs.Split.{is, isnt, test, clash}
 use Rattle.request.specs.Written.{written}
 use Rattle.request.specs.Trips.{Bytes}
@@ -33,8 +32,8 @@ bytes ks = has ks 1 ∷ has ks 2 ∷ has ks 3 ∷ has ks 4 ∷ has ks 5 ∷ has 
 
 -- a number without an operation uses none
 marked : Option Operation → List Bool
-marked none = bytes []
-marked (some u) = marks u
+marked None = bytes []
+marked (Some u) = marks u
 
 agree : map marked operations ≡ map bytes uses
 unfolding uses marked
@@ -53,23 +52,23 @@ module _ {A B C : Type 0} (f : A → C) (g : B → C) (x : A) (y : B) (out : f x
 -- the numbers of a table's lines that have none, where the first line's number is i
 holes : ℕ → List (Option Operation) → List ℕ
 holes i [] = []
-holes i (none ∷ us) = i ∷ holes (suc i) us
-holes i (some u ∷ us) = holes (suc i) us
+holes i (None ∷ us) = i ∷ holes (suc i) us
+holes i (Some u ∷ us) = holes (suc i) us
 
-hole_at : (us : List (Option Operation)) (i j k : ℕ) → k ≡ i + j → j < length us → get_or us j none ≡ none → has (holes i us) k ≡ true
+hole_at : (us : List (Option Operation)) (i j k : ℕ) → k ≡ i + j → j < length us → get_or us j None ≡ None → has (holes i us) k ≡ true
 unfolding holes
 hole_at [] i j k e h n = absurd (omega arith)
-hole_at (none ∷ us) i zero k e h n = rw (eq-eqb k i (omega arith))
-hole_at (none ∷ us) i (suc j) k e h n = rw (hole_at us (suc i) j k (omega arith) (omega arith) n) (or-true (eqb k i))
-hole_at (some u ∷ us) i zero k e h n = absurd (none-ne-some u (sym n))
-hole_at (some u ∷ us) i (suc j) k e h n = hole_at us (suc i) j k (omega arith) (omega arith) n
+hole_at (None ∷ us) i zero k e h n = rw (eq-eqb k i (omega arith))
+hole_at (None ∷ us) i (suc j) k e h n = rw (hole_at us (suc i) j k (omega arith) (omega arith) n) (or-true (eqb k i))
+hole_at (Some u ∷ us) i zero k e h n = absurd (none-some u (sym n))
+hole_at (Some u ∷ us) i (suc j) k e h n = hole_at us (suc i) j k (omega arith) (omega arith) n
 
 only_3 : holes 0 operations ≡ 3 ∷ []
 unfolding holes
 only_3 = refl
 
 -- of the numbers up to 24 only 3 has none
-none_of : (k : ℕ) → operation_of k ≡ none → k ≤ 24 → k ≡ 3
+none_of : (k : ℕ) → operation_of k ≡ None → k ≤ 24 → k ≡ 3
 none_of k n h = eqb-true k 3 (sym (or-false (eqb k 3)) ∙ rw only_3 at (hole_at operations 0 k k (omega arith) (omega arith) n))
 
 -- FIELDS
@@ -84,9 +83,9 @@ kept_means false x k e = eqb-true x 0 k
 
 module _ (r : List ℕ) where
   -- the line of a record's operation marks what the operation uses
-  mark_of : (u : Operation) → operation_of (get_or r 0 0) ≡ some u → marks u ≡ bytes (get_or uses (get_or r 0 0) [])
+  mark_of : (u : Operation) → operation_of (get_or r 0 0) ≡ Some u → marks u ≡ bytes (get_or uses (get_or r 0 0) [])
   unfolding marked
-  mark_of u h = ap marked (sym h) ∙ agree_at marked bytes none [] refl operations uses (get_or r 0 0) agree
+  mark_of u h = ap marked (sym h) ∙ agree_at marked bytes None [] refl operations uses (get_or r 0 0) agree
 
   -- A RECORD THAT ASKS: every byte that its operation does not use is zero
 
@@ -120,8 +119,8 @@ module _ (r : List ℕ) where
 
     well : Malformed r → ⊥
     well (not_twelve h) = h x.long
-    well (gone h) = none-ne-some x.fields.by (rw h at x.fields.there)
-    well (unknown h) = none-ne-some x.fields.by (sym (get_or-eq_default operations none {n = get_or r 0 0} (omega arith)) ∙ x.fields.there)
+    well (gone h) = none-some x.fields.by (rw h at x.fields.there)
+    well (unknown h) = none-some x.fields.by (sym (get_or-eq_default operations None {n = get_or r 0 0} (omega arith)) ∙ x.fields.there)
     well (third h) = h x.zeroed
     well (unused k low e h) = h (zeros k low e)
 
@@ -134,8 +133,8 @@ module _ (r : List ℕ) where
   parts long there low z none-set = record { long = long; zeroed = z; fields = of (operation_of (get_or r 0 0)) refl }
     where
       of : (m : Option Operation) → operation_of (get_or r 0 0) ≡ m → Kept (get_or r 0 0) (get_or r 1 0) (get_or r 2 0) (word_at r 4) (word_at r 8)
-      of none h = absurd (there (none_of (get_or r 0 0) h low))
-      of (some u) h =
+      of None h = absurd (there (none_of (get_or r 0 0) h low))
+      of (Some u) h =
           let mark : (j : ℕ) → get_or (bytes (get_or uses (get_or r 0 0) [])) j false ≡ get_or (marks u) j false = λ j. ap (λ l. get_or l j false) (sym (mark_of u h)) in
           record {
             by = u;
@@ -167,7 +166,7 @@ module _ (r : List ℕ) where
     ]
   ])
 
-  ill : decode_request r ≡ Bad → Malformed r
+  ill : decode_request r ≡ None → Malformed r
   ill bad = elim (test (eqb (length r) 12)) [
     | isnt e ↦ not_twelve (eqb-false (length r) 12 e)
     | is long ↦ elim (test (eqb (get_or r 0 0) 3)) [
@@ -185,13 +184,13 @@ module _ (r : List ℕ) where
     ]
   ]
 
-  decoded : (d : Decoded) → decode_request r ≡ d → Malformed r → decode_request r ≡ Bad
-  decoded (Asked q) e m = absurd (well (parts_of r q e) m)
-  decoded Bad e m = e
+  decoded : (d : Option Request) → decode_request r ≡ d → Malformed r → decode_request r ≡ None
+  decoded (Some q) e m = absurd (well (parts_of r q e) m)
+  decoded None e m = e
 
-  asks : (d : Decoded) → decode_request r ≡ d → Bytes r → (Malformed r → ⊥) → (q : Request) × (written q ≡ r)
-  asks (Asked q) e byte h = (q, trips.back r byte q e)
-  asks Bad e byte h = absurd (h (ill e))
+  asks : (d : Option Request) → decode_request r ≡ d → Bytes r → (Malformed r → ⊥) → (q : Request) × (written q ≡ r)
+  asks (Some q) e byte h = (q, trips.back r byte q e)
+  asks None e byte h = absurd (h (ill e))
 
 pub decodes : Decodes
 decodes = record { bad = λ r. (ill r, decoded r (decode_request r) refl); other = λ r. asks r (decode_request r) refl }

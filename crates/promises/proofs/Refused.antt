@@ -1,9 +1,8 @@
 -- A step answers the refusal that document 01's two tables name, and a refusal leaves the state as it was: each operation is a
 -- ladder of tests in the order of the first table, and each test is the second table's condition. Assumes nothing.
-use Rattle.std.specs.Prelude.{if◌then◌else◌}
+use Rattle.std.specs.Prelude.{if◌then◌else◌, Option, None, Some}
 use mathlib.Core.Bool.{Bool, true, false, not, ◌&&◌, ◌||◌}
 use mathlib.Core.Path.{◌≡◌, refl}
-use mathlib.Core.Option.{Option, none, some}
 use Prim.Native.Nat.{ℕ, ◌-◌}
 use native.Mathlib.Omega.{arith}
 use native.Mathlib.Decide.{ℕ_discrete}
@@ -34,24 +33,24 @@ use Rattle.promises.specs.Refusals.{first_given, refusal, refusal_in, locked, ca
 -- a step answers one refusal or none, and leaves the state where it refuses
 pub record Says (s : State) (why : Option Refusal) (r : Step) : Type 0 where
   pub answer : refusal_in r.answer ≡ why
-  pub state : (w : Refusal) → why ≡ some w → r.state ≡ s
+  pub state : (w : Refusal) → why ≡ Some w → r.state ≡ s
 
-never : {A : Type 0} (w : A) → ◌≡◌ {A = Option A} none (some w) → ⊥
+never : {A : Type 0} (w : A) → ◌≡◌ {A = Option A} None (Some w) → ⊥
 never w e = let z : ◌≡◌ {A = ℕ} 0 1 = cc in omega arith
 
-refuses : (s : State) (why : Refusal) → Says s (some why) (refuse s why)
+refuses : (s : State) (why : Refusal) → Says s (Some why) (refuse s why)
 refuses s why = record { answer = refl; state = λ w e. refl }
 
-accepts : (s : State) (r : Step) → refusal_in r.answer ≡ none → Says s none r
+accepts : (s : State) (r : Step) → refusal_in r.answer ≡ None → Says s None r
 accepts s r e = record { answer = e; state = λ w e. absurd (never w e) }
 
 -- a rung: the test is the condition
-rung : (s : State) (a b : Bool) (why : Refusal) (behind : Option Refusal) (r : Step) → a ≡ b → Says s behind r → Says s (if a then some why else behind) (if b then refuse s why else r)
+rung : (s : State) (a b : Bool) (why : Refusal) (behind : Option Refusal) (r : Step) → a ≡ b → Says s behind r → Says s (if a then Some why else behind) (if b then refuse s why else r)
 rung s a true why behind r e h = rw e (refuses s why)
 rung s a false why behind r e h = rw e h
 
 -- a branch that refuses nothing
-split : (s : State) (b : Bool) (x y : Step) → refusal_in x.answer ≡ none → refusal_in y.answer ≡ none → Says s none (if b then x else y)
+split : (s : State) (b : Bool) (x y : Step) → refusal_in x.answer ≡ None → refusal_in y.answer ≡ None → Says s None (if b then x else y)
 split s true x y e f = accepts s x e
 split s false x y e f = accepts s y f
 
@@ -120,27 +119,27 @@ too_many_is : (s : State) (k n : ℕ) → minus5 s (Ask.Post k n) ≡ too_many s
 too_many_is s k n = rw (over_is s k n)
 
 -- a call that must wait, in one of two branches
-must : (s : State) (n : ℕ) (w : ℕ → Wait) (x : ℕ) → Says s (if cannot_wait s n then some BadOperation else none) (must_wait s n w x)
+must : (s : State) (n : ℕ) (w : ℕ → Wait) (x : ℕ) → Says s (if cannot_wait s n then Some BadOperation else None) (must_wait s n w x)
 unfolding must_wait block
-must s n w x = rung s (cannot_wait s n) (never_wait n || may_not_wait s) BadOperation none _ (cannot s n) (accepts s _ refl)
+must s n w x = rung s (cannot_wait s n) (never_wait n || may_not_wait s) BadOperation None _ (cannot s n) (accepts s _ refl)
 
-must_if : (s : State) (b : Bool) (n : ℕ) (w : ℕ → Wait) (x : ℕ) (r : Step) → refusal_in r.answer ≡ none
-    → Says s (if b && cannot_wait s n then some BadOperation else none) (if b then must_wait s n w x else r)
+must_if : (s : State) (b : Bool) (n : ℕ) (w : ℕ → Wait) (x : ℕ) (r : Step) → refusal_in r.answer ≡ None
+    → Says s (if b && cannot_wait s n then Some BadOperation else None) (if b then must_wait s n w x else r)
 must_if s true n w x r e = must s n w x
 must_if s false n w x r e = accepts s r e
 
-must_unless : (s : State) (b c : Bool) (n : ℕ) (w : ℕ → Wait) (x : ℕ) (r : Step) → c ≡ not b → refusal_in r.answer ≡ none
-    → Says s (if c && cannot_wait s n then some BadOperation else none) (if b then r else must_wait s n w x)
+must_unless : (s : State) (b c : Bool) (n : ℕ) (w : ℕ → Wait) (x : ℕ) (r : Step) → c ≡ not b → refusal_in r.answer ≡ None
+    → Says s (if c && cannot_wait s n then Some BadOperation else None) (if b then r else must_wait s n w x)
 must_unless s true c n w x r q e = rw q (accepts s r e)
 must_unless s false c n w x r q e = rw q (must s n w x)
 
 -- two rungs of one refusal
 either : (s : State) (a b : Bool) (why : Refusal) (behind : Option Refusal) (r : Step)
-    → Says s (if a then some why else (if b then some why else behind)) r → Says s (if a || b then some why else behind) r
+    → Says s (if a then Some why else (if b then Some why else behind)) r → Says s (if a || b then Some why else behind) r
 either s true b why behind r h = h
 either s false b why behind r h = h
 
-outcome_none : (o : Outcome.Outcome) (x : ℕ) → refusal_in (outcome_answer o x) ≡ none
+outcome_none : (o : Outcome.Outcome) (x : ℕ) → refusal_in (outcome_answer o x) ≡ None
 outcome_none Outcome.TheVariants.Done x = refl
 outcome_none Outcome.TheVariants.NoneYet x = refl
 outcome_none Outcome.TheVariants.Failed x = refl
@@ -154,7 +153,7 @@ posts s k n = elim (test (no_sem s k)) [
   | isnt e ↦ rw (sem_free s k, e, over_is s k n, above_zero s.lock) (last (ltb 0 s.lock) (too_many s k n))
 ]
   where
-    last : (a b : Bool) → Says s (if b || a then some BadOperation else none) (if a then refuse s BadOperation else (if b then refuse s BadOperation else accept (posted s k n) 0))
+    last : (a b : Bool) → Says s (if b || a then Some BadOperation else None) (if a then refuse s BadOperation else (if b then refuse s BadOperation else accept (posted s k n) 0))
     last true true = refuses s BadOperation
     last true false = refuses s BadOperation
     last false true = refuses s BadOperation
@@ -162,7 +161,7 @@ posts s k n = elim (test (no_sem s k)) [
 
 pub says : (s : State) (q : Request) → Says s (refusal s q) (step s q)
 unfolding refusal first_given step do_yield do_create do_delete do_suspend do_resume do_delay do_cancel do_set_priority do_set_turn break_off do_send do_send_from_interrupt do_receive do_make do_drop do_pend do_abort do_post do_post_from_interrupt do_lock do_unlock do_tick do_outcome do_ticks do_nearest block
-says s Ask.Yield = if_case (Says s none) (ltb 0 s.lock) (λ e. accepts s _ refl) (λ e. accepts s _ refl)
+says s Ask.Yield = if_case (Says s None) (ltb 0 s.lock) (λ e. accepts s _ refl) (λ e. accepts s _ refl)
 says s (Ask.Create i p n) = search (rung, accepts) depth 8
 says s (Ask.Delete i) = search (rung, accepts, thread_free, bound_is) depth 8
 says s (Ask.Suspend i) = search (rung, split, accepts, thread_free, bound_is) depth 8

@@ -1,5 +1,6 @@
 -- Demand 2 holds: a call leaves a sound table as it is or makes of it the table of the request's step, a step keeps a state sound, and
 -- a state and its table determine each other. Assumes nothing.
+use Rattle.std.specs.Prelude.{None, Option, Some}
 use mathlib.Core.Bool.{◌&&◌}
 use mathlib.Core.Path.{◌≡◌, refl, ap, ◌∙◌}
 use mathlib.Core.List.{List, [], ◌∷◌, ◌++◌}
@@ -18,8 +19,6 @@ use Rattle.rules.specs.Test.{sound_table}
 use Rattle.rules.specs.Steps.{step}
 use Rattle.rules.specs.Door.{serve_decoded, door, fresh_table, Handed, table_after}
 use Rattle.rules.specs.declared.Request.{Request}
-use Rattle.rules.specs.declared.Decoded.{Decoded}
-use Rattle.rules.specs.declared.Decoded.TheVariants.{Asked, Bad}
 use Rattle.laws.proofs.Split.{is, isnt, test}
 use Rattle.laws.proofs.Tested.{tested_table, fresh_sound, let_in}
 use Rattle.layout.proofs.RoundTrip.{on_decode, decode_encode}
@@ -37,10 +36,10 @@ pub data Next (b : Board) (t after : List ℕ) : Type 0 where
   steps : (q : Request) → after ≡ encode (step (decode b t) q).state → Next b t after
 
 module _ (b : Board) (t : List ℕ) (σ : SoundTable b t) where
-  decoded : (d : Decoded) → Next b t (serve_decoded b t d).table
+  decoded : (d : Option Request) → Next b t (serve_decoded b t d).table
   unfolding serve_decoded
-  decoded (Asked q) = steps q refl
-  decoded Bad = stays refl
+  decoded (Some q) = steps q refl
+  decoded None = stays refl
 
   pub next : (r a : List ℕ) → Next b t (door b t r a).table
   unfolding door
@@ -64,11 +63,11 @@ module _ (b : Board) (t : List ℕ) (σ : SoundTable b t) where
       ap (λ s. s.running) d ∙ running_kept (decode b t) q (λ z. h (ap (λ s. s.lock) d ∙ z))
 
   -- beside code 1, which only a request that is served can have
-  served_tells : (r : List ℕ) (d : Decoded) → decode_request r ≡ d → (serve_decoded b t d).code ≡ pos 1
+  served_tells : (r : List ℕ) (d : Option Request) → decode_request r ≡ d → (serve_decoded b t d).code ≡ pos 1
       → (serve_decoded b t d).area ≡ word_bytes 1 ++ word_bytes (told b t (get_or r 0 0) (get_or r 1 0))
   unfolding serve_decoded area_of
-  served_tells r Bad e k = let z : ◌≡◌ {A = ℕ} 0 1 = cc in absurd (omega arith)
-  served_tells r (Asked q) e k = rw (k, (tells b t σ q).value k, fields_read r q e)
+  served_tells r None e k = let z : ◌≡◌ {A = ℕ} 0 1 = cc in absurd (omega arith)
+  served_tells r (Some q) e k = rw (k, (tells b t σ q).value k, fields_read r q e)
 
   pub door_tells : (r a : List ℕ) → (door b t r a).code ≡ pos 1 → (door b t r a).area ≡ word_bytes 1 ++ word_bytes (told b t (get_or r 0 0) (get_or r 1 0))
   unfolding door

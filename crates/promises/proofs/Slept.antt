@@ -1,5 +1,6 @@
 -- Order 7 over the door: a tick of a sound table leaves the table of the next state, so n of them leave that of `ticks n`, which operation 21
 -- makes at once; any other table gets −7 each time. Operation 22's value is that of the states. Assumes nothing.
+use Rattle.std.specs.Prelude.{Ok}
 use mathlib.Core.Bool.{false, true≢false, ◌&&◌}
 use mathlib.Core.Path.{◌≡◌, refl, ap, sym, ◌∙◌}
 use mathlib.Core.List.{List, [], ◌∷◌}
@@ -21,7 +22,7 @@ use Rattle.rules.specs.Sound.{SoundTable}
 use Rattle.rules.specs.Test.{sound_table}
 use Rattle.rules.specs.Door.{answered, serve_decoded, door}
 use Rattle.rules.specs.declared.Thread.{Thread}
-use Rattle.rules.specs.declared.Answer.TheVariants.{Done}
+use Rattle.rules.specs.declared.Reply.TheVariants.{Done}
 use Rattle.rules.specs.declared.Request.TheVariants as Ask
 use Rattle.laws.proofs.Split.{is, isnt, test, and_true}
 use Rattle.laws.proofs.Tested.{tested_table, let_in}
@@ -43,14 +44,14 @@ module _ (b : Board) where
 
   -- SINGLE TICKS OF A SOUND TABLE
 
-  times : (n : ℕ) (t a : List ℕ) → SoundTable b t → length a ≡ area_length → (c : ℤ) → tick_times b (suc n) (found c t a) ≡ answered (encode (ticks (suc n) (decode b t))) (Done 0)
+  times : (n : ℕ) (t a : List ℕ) → SoundTable b t → length a ≡ area_length → (c : ℤ) → tick_times b (suc n) (found c t a) ≡ answered (encode (ticks (suc n) (decode b t))) (Ok (Done 0))
   unfolding tick_times ticks area_of
   times zero t a σ l c = ticked b t a σ l
   times (suc n) t a σ l c =
       let u = encode (do_tick (decode b t)).state in
       ap (tick_times b (suc n)) (ticked b t a σ l)
-      ∙ times n u (area_of (Done 0)) (ticked_sound b t σ) refl (pos 0)
-      ∙ ap (λ s. answered (encode (ticks (suc n) s)) (Done 0)) (ticked_says b t)
+      ∙ times n u (area_of (Ok (Done 0))) (ticked_sound b t σ) refl (pos 0)
+      ∙ ap (λ s. answered (encode (ticks (suc n) s)) (Ok (Done 0))) (ticked_says b t)
 
   -- the state that the table after n ticks says
   says : (t a : List ℕ) → SoundTable b t → length a ≡ area_length → (n : ℕ) → decode b (after_ticks b t a n) ≡ ticks n (decode b t)
@@ -61,7 +62,7 @@ module _ (b : Board) where
   -- OPERATION 21
 
   at_once_lem : (t a : List ℕ) (n : ℕ) → SoundTable b t → length a ≡ area_length → bad_ticks n ≡ false
-      → door b t (written (Ask.Ticks n)) a ≡ answered (encode (ticks n (decode b t))) (Done 0)
+      → door b t (written (Ask.Ticks n)) a ≡ answered (encode (ticks n (decode b t))) (Ok (Done 0))
   unfolding serve_decoded step do_ticks
   at_once_lem t a n σ l e = let_in b t (written (Ask.Ticks n)) a σ l ∙ rw (decode_written (Ask.Ticks n), e)
 
@@ -105,7 +106,7 @@ module _ (b : Board) (t a : List ℕ) (σ : SoundTable b t) (l : length a ≡ ar
     ]
   ])
 
-  answers : door b t (written Ask.Nearest) a ≡ answered t (Done (nearest s.threads))
+  answers : door b t (written Ask.Nearest) a ≡ answered t (Ok (Done (nearest s.threads)))
   unfolding serve_decoded step do_nearest
   answers = let_in b t (written Ask.Nearest) a σ l ∙ rw (decode_written Ask.Nearest, ← σ.meaning)
 

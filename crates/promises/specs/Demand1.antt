@@ -1,8 +1,7 @@
 -- DEMAND 1. "It takes every table and request handed to it, finishes, and never asks the caller to check first. A bad one gets the
 -- refusal number that the rules name, and the table stays byte for byte as it was."
 -- `door` is a function of every three lists of bytes; the code that computes it is proved to end for each.
-use Rattle.std.specs.Prelude.{◌≡◌, ◌↔◌, List, ◌++◌, ℕ, negsuc, length}
-use Rattle.std.proofs.Math.Option.{none, some}
+use Rattle.std.specs.Prelude.{◌≡◌, ◌↔◌, List, ◌++◌, ℕ, negsuc, length, None, Some}
 use Rattle.rules.specs.Board.{Board}
 use Rattle.rules.specs.Table.{word_bytes, decode}
 use Rattle.rules.specs.Answers.{refusal_code, bits_of, area_length, code_of, area_of}
@@ -10,7 +9,7 @@ use Rattle.rules.specs.Sound.{SoundTable}
 use Rattle.rules.specs.Door.{Doored, door}
 use Rattle.rules.specs.declared.Refusal.{Refusal}
 use Rattle.rules.specs.declared.Refusal.TheVariants.{BadRecord}
-use Rattle.rules.specs.declared.Answer.{Answer}
+use Rattle.rules.specs.Answers.{Answer}
 use Rattle.rules.specs.declared.Request.{Request}
 use Rattle.request.specs.Written.{written}
 use Rattle.promises.specs.Refusals.{refusal, refusal_in}
@@ -23,7 +22,7 @@ refused_with t why = record { code = refusal_code why; table = t; area = word_by
 -- an answer that is no refusal, in the area and as the returned number
 pub record Accepted (d : Doored) : Type 0 where
   pub answer : Answer
-  pub none : refusal_in answer ≡ none
+  pub none : refusal_in answer ≡ None
   pub code : d.code ≡ code_of answer
   pub area : d.area ≡ area_of answer
 
@@ -40,10 +39,10 @@ pub record Answered (b : Board) (t r a : List ℕ) (d : Doored) : Type 0 where
   -- Any other record is what a request is written as (`Malformed.Decodes`). Any other refusal is the first in document 01's list whose
   -- condition holds,
   pub refused : SoundTable b t → length a ≡ area_length → (q : Request) → written q ≡ r
-      → (why : Refusal) → refusal (decode b t) q ≡ some why → d ≡ refused_with t why
+      → (why : Refusal) → refusal (decode b t) q ≡ Some why → d ≡ refused_with t why
   -- and none is given where none holds
   pub accepted : SoundTable b t → length a ≡ area_length → (q : Request) → written q ≡ r
-      → refusal (decode b t) q ≡ none → Accepted d
+      → refusal (decode b t) q ≡ None → Accepted d
 
 abbrev pub Demand1 : Type 0
 Demand1 = (b : Board) (t r a : List ℕ) → Answered b t r a (door b t r a)

@@ -1,7 +1,7 @@
 -- DEMAND 2. "For every request, interrupt and tick, the answer, the next table and the running thread are those of the RMP manual's
 -- rules as document 01 completes them." Order 8: "Demand 2 reads [operations 23 and 24] in the place of 001's Set".
 -- The rules are the definitions of crate `rules`; the kernel's code is proved to give what they say. Here is what they then keep true.
-use Rattle.std.specs.Prelude.{true, ◌≡◌, List, ◌++◌, ℕ, ◌≤◌, pos, length, get_or}
+use Rattle.std.specs.Prelude.{true, ◌≡◌, List, ◌++◌, ℕ, ◌≤◌, pos, length, get_or, Some}
 use Rattle.rules.specs.Board.{Board, printer}
 use Rattle.rules.specs.State.{State, at, caller, is_ready}
 use Rattle.rules.specs.Table.{word_bytes, encode, decode}
@@ -11,7 +11,6 @@ use Rattle.rules.specs.Sound.{SoundTable}
 use Rattle.rules.specs.Steps.{step}
 use Rattle.rules.specs.Door.{Doored, answered, door, fresh_table, Handed, table_after}
 use Rattle.rules.specs.declared.Request.{Request}
-use Rattle.rules.specs.declared.Decoded.TheVariants.{Asked}
 use Rattle.promises.specs.Ahead.{told}
 
 -- "the running thread is the first of the highest non-empty line"
@@ -23,7 +22,7 @@ pub record RunsFirst (s : State) : Type 0 where
 -- what the door makes of a sound table t, whatever the record and the area are
 pub record Ruled (b : Board) (t r a : List ℕ) (d : Doored) : Type 0 where
   -- the answer and the next table are those of the request's rule,
-  pub by_rule : length a ≡ area_length → (q : Request) → decode_request r ≡ Asked q
+  pub by_rule : length a ≡ area_length → (q : Request) → decode_request r ≡ Some q
       → d ≡ answered (encode (step (decode b t) q).state) (step (decode b t) q).answer
   -- order 1: "A Send or Pend that answers 1 now gives as its value the number of threads already in that line", by the bytes of table and
   -- record; "Delay and Receive keep value 0", and so does an outcome that is 1,

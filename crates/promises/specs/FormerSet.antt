@@ -1,6 +1,6 @@
 -- ORDER 8. "Set does two jobs. [..] Split it": wherever document 01's Set, the former operation 3, was accepted, operation 24 and then 23 are
 -- accepted and give what it gave; and so do 23 and then 24. Of the two, 23 with "the same priority changes nothing".
-use Rattle.std.specs.Prelude.{if◌then◌else◌, true, not, ◌&&◌, ◌≡◌, List, ℕ, ◌≤◌, eqb, length}
+use Rattle.std.specs.Prelude.{if◌then◌else◌, true, not, ◌&&◌, ◌≡◌, List, ℕ, ◌≤◌, eqb, length, Ok}
 use Rattle.rules.specs.Board.{Board}
 use Rattle.rules.specs.State.{State, at, is_ready, with_priority, with_turn, edit}
 use Rattle.rules.specs.Lines.{filled, move}
@@ -12,7 +12,7 @@ use Rattle.rules.specs.Steps.{step}
 use Rattle.rules.specs.Sound.{SoundTable}
 use Rattle.rules.specs.Door.{answered, door}
 use Rattle.rules.specs.declared.Thread.{Thread}
-use Rattle.rules.specs.declared.Answer.TheVariants.{Done}
+use Rattle.rules.specs.declared.Reply.TheVariants.{Done}
 use Rattle.rules.specs.declared.Refusal.TheVariants.{BadThread, BadPriority, BadTicks, BadOperation}
 use Rattle.rules.specs.declared.Request.{Request}
 use Rattle.rules.specs.declared.Request.TheVariants as Ask
@@ -36,22 +36,22 @@ former_set s i p n =
 
 -- two requests, one behind the other, and a step: the first is accepted, and the second gives what the step gives
 pub record Gives (s : State) (first second : Request) (r : Step) : Type 0 where
-  pub begins : (step s first).answer ≡ Done 0
+  pub begins : (step s first).answer ≡ Ok (Done 0)
   pub ends : step (step s first).state second ≡ r
 
 pub record FormerSet : Type 0 where
   -- "operation 23 sets the priority [..], operation 24 sets the turn": of any state, sound or not
-  pub turn_first : (s : State) (i p n : ℕ) → (former_set s i p n).answer ≡ Done 0 → Gives s (Ask.SetTurn i n) (Ask.SetPriority i p) (former_set s i p n)
-  pub priority_first : (s : State) (i p n : ℕ) → (former_set s i p n).answer ≡ Done 0 → Gives s (Ask.SetPriority i p) (Ask.SetTurn i n) (former_set s i p n)
+  pub turn_first : (s : State) (i p n : ℕ) → (former_set s i p n).answer ≡ Ok (Done 0) → Gives s (Ask.SetTurn i n) (Ask.SetPriority i p) (former_set s i p n)
+  pub priority_first : (s : State) (i p n : ℕ) → (former_set s i p n).answer ≡ Ok (Done 0) → Gives s (Ask.SetPriority i p) (Ask.SetTurn i n) (former_set s i p n)
   -- where it was refused, one of the two is
-  pub accepted : (s : State) (i p n : ℕ) → (step s (Ask.SetTurn i n)).answer ≡ Done 0 → (step s (Ask.SetPriority i p)).answer ≡ Done 0
-      → (former_set s i p n).answer ≡ Done 0
+  pub accepted : (s : State) (i p n : ℕ) → (step s (Ask.SetTurn i n)).answer ≡ Ok (Done 0) → (step s (Ask.SetPriority i p)).answer ≡ Ok (Done 0)
+      → (former_set s i p n).answer ≡ Ok (Done 0)
   -- the same over bytes, by two calls of the door
   pub at_the_door : (b : Board) (t a c : List ℕ) (i p n : ℕ) → SoundTable b t → length a ≡ area_length → length c ≡ area_length
-      → (former_set (decode b t) i p n).answer ≡ Done 0
-      → door b (door b t (written (Ask.SetTurn i n)) a).table (written (Ask.SetPriority i p)) c ≡ answered (encode (former_set (decode b t) i p n).state) (Done 0)
+      → (former_set (decode b t) i p n).answer ≡ Ok (Done 0)
+      → door b (door b t (written (Ask.SetTurn i n)) a).table (written (Ask.SetPriority i p)) c ≡ answered (encode (former_set (decode b t) i p n).state) (Ok (Done 0))
 
 -- "the same priority changes nothing": of a thread that is in use and is not Init, it answers 0 and leaves the table byte for byte
 abbrev pub SamePriority : Type 0
 SamePriority = (b : Board) (t a : List ℕ) (i : ℕ) → SoundTable b t → length a ≡ area_length → 1 ≤ i → (at (decode b t).threads i).used ≡ true
-    → door b t (written (Ask.SetPriority i (at (decode b t).threads i).priority)) a ≡ answered t (Done 0)
+    → door b t (written (Ask.SetPriority i (at (decode b t).threads i).priority)) a ≡ answered t (Ok (Done 0))

@@ -1,9 +1,8 @@
 -- Document 01's condition for −8, written down apart from the decoder, byte by byte, so that it can disagree with it.
 -- "−8: record not 12 bytes, operation above 20, byte 3 or an unused field not zero"; order 8: "−8 for 3 and above 24"
-use Rattle.std.specs.Prelude.{Bool, false, ◌||◌, ◌≡◌, List, [], ◌∷◌, ◌++◌, ◌↔◌, ℕ, ◌≤◌, ◌<◌, eqb, length, get_or}
+use Rattle.std.specs.Prelude.{Bool, false, ◌||◌, ◌≡◌, List, [], ◌∷◌, ◌++◌, ◌↔◌, ℕ, ◌≤◌, ◌<◌, eqb, length, get_or, None}
 use Rattle.rules.specs.Requests.{decode_request}
 use Rattle.rules.specs.declared.Request.{Request}
-use Rattle.rules.specs.declared.Decoded.TheVariants.{Bad}
 use Rattle.request.specs.Written.{written}
 use Rattle.request.specs.Trips.{Bytes}
 
@@ -92,5 +91,5 @@ pub data Malformed (r : List ℕ) : Type 0 where
 
 -- the decoder finds a record bad exactly then, and any other record of bytes is what some request is written as
 pub record Decodes : Type 0 where
-  pub bad : (r : List ℕ) → (decode_request r ≡ Bad) ↔ Malformed r
+  pub bad : (r : List ℕ) → (decode_request r ≡ None) ↔ Malformed r
   pub other : (r : List ℕ) → Bytes r → (Malformed r → ⊥) → (q : Request) × (written q ≡ r)

@@ -1,7 +1,6 @@
 -- Document 01's two tables of refusals as the orders change them, written down apart from the operations, so that they can disagree with
 -- them.
-use Rattle.std.specs.Prelude.{if◌then◌else◌, Bool, false, not, ◌&&◌, ◌||◌, List, [], ◌∷◌, ℕ, ◌+◌, ◌-◌, eqb, leb, ltb, length}
-use Rattle.std.proofs.Math.Option.{Option, none, some}
+use Rattle.std.specs.Prelude.{if◌then◌else◌, Bool, false, not, ◌&&◌, ◌||◌, List, [], ◌∷◌, ℕ, ◌+◌, ◌-◌, eqb, leb, ltb, length, Err, Ok, Option, None, Some}
 use Rattle.rules.specs.Basic.{count}
 use Rattle.rules.specs.State.{State, at, sem_at, caller, delaying, pending}
 use Rattle.rules.specs.declared.Thread.{Thread}
@@ -9,12 +8,12 @@ use Rattle.rules.specs.declared.Wait.{Wait}
 use Rattle.rules.specs.declared.Wait.TheVariants.{Nothing, Delay, Receive, Send, Semaphore}
 use Rattle.rules.specs.declared.Refusal.{Refusal}
 use Rattle.rules.specs.declared.Refusal.TheVariants.{BadThread, BadPriority, BadTicks, BadState, BadOperation, BadSemaphore, BadTable, BadRecord}
-use Rattle.rules.specs.declared.Answer.{Answer}
-use Rattle.rules.specs.declared.Answer.TheVariants.{Done, Blocked, NoneYet, Failed, Refused}
+use Rattle.rules.specs.Answers.{Answer}
+use Rattle.rules.specs.declared.Reply.TheVariants.{Done, Blocked, NoneYet, Failed}
 use Rattle.rules.specs.declared.Request.{Request}
 use Rattle.rules.specs.declared.Request.TheVariants as Ask
 
--- THE FIRST TABLE: "Refused, in this order"
+-- THE FIRST TABLE: "Err, in this order"
 
 abbrev pub order : Request → List Refusal
 order Ask.Yield = []
@@ -209,8 +208,8 @@ given s q BadRecord = false
 
 -- the first of a list whose condition holds
 unfoldable pub first_given : State → Request → List Refusal → Option Refusal
-first_given s q [] = none
-first_given s q (why ∷ rest) = let behind = first_given s q rest in if given s q why then some why else behind
+first_given s q [] = None
+first_given s q (why ∷ rest) = let behind = first_given s q rest in if given s q why then Some why else behind
 
 -- the refusal that document 01's two tables name
 unfoldable pub refusal : State → Request → Option Refusal
@@ -218,8 +217,8 @@ refusal s q = first_given s q (order q)
 
 -- the refusal that an answer is
 abbrev pub refusal_in : Answer → Option Refusal
-refusal_in (Done v) = none
-refusal_in (Blocked v) = none
-refusal_in NoneYet = none
-refusal_in Failed = none
-refusal_in (Refused why) = some why
+refusal_in (Ok (Done v)) = None
+refusal_in (Ok (Blocked v)) = None
+refusal_in (Ok NoneYet) = None
+refusal_in (Ok Failed) = None
+refusal_in (Err why) = Some why

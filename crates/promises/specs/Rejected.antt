@@ -1,7 +1,7 @@
 -- Document 01, "How tight the promises are": "Tried and rejected: a kernel that refuses everything and one that hands the table back
 -- (demand 2 shuts them out, and demand 3 as soon as two threads share a rank); one that answers 0 always (2); one that rotates only in
 -- the first round (2 and 3); one whose semaphore value is invented (2)." Each is a door here, and does not meet the demand named.
-use Rattle.std.specs.Prelude.{if◌then◌else◌, Bool, true, ◌&&◌, ◌≡◌, List, [], ◌∷◌, ℕ, eqb, ltb, pos, get_or}
+use Rattle.std.specs.Prelude.{if◌then◌else◌, Bool, true, ◌&&◌, ◌≡◌, List, [], ◌∷◌, ℕ, eqb, ltb, pos, get_or, Ok}
 use Rattle.rules.specs.Board.{Board, printer}
 use Rattle.rules.specs.State.{State, caller, with_threads, edit}
 use Rattle.rules.specs.Lines.{filled}
@@ -10,7 +10,7 @@ use Rattle.rules.specs.Answers.{area_of}
 use Rattle.rules.specs.Sound.{SoundTable}
 use Rattle.rules.specs.Door.{door}
 use Rattle.rules.specs.declared.Refusal.{Refusal}
-use Rattle.rules.specs.declared.Answer.TheVariants.{Done}
+use Rattle.rules.specs.declared.Reply.TheVariants.{Done}
 use Rattle.rules.specs.declared.Request.{Request}
 use Rattle.rules.specs.declared.Request.TheVariants as Ask
 use Rattle.fairness.specs.Run.{is_zero}
@@ -37,7 +37,7 @@ hands_back t r a = let d = door printer t r a in record { code = d.code; table =
 
 -- "one that answers 0 always"
 unfoldable pub answers_zero : Door
-answers_zero t r a = record { code = pos 0; table = (door printer t r a).table; area = area_of (Done 0) }
+answers_zero t r a = record { code = pos 0; table = (door printer t r a).table; area = area_of (Ok (Done 0)) }
 
 -- the turn would go to a thread of the same rank with a lower number: a second round begins
 abbrev goes_round : State → State → Bool
@@ -55,7 +55,7 @@ rotates_once t r a =
 unfoldable pub invents_value : Door
 invents_value t r a =
     let d = door printer t r a in
-    record { code = d.code; table = d.table; area = if eqb (get_or r 0 0) 13 && is_zero d.code then area_of (Done 7) else d.area }
+    record { code = d.code; table = d.table; area = if eqb (get_or r 0 0) 13 && is_zero d.code then area_of (Ok (Done 7)) else d.area }
 
 -- THE RUNS OF DEMAND 3
 

@@ -2,7 +2,7 @@
 -- those of that many single ones. Operation 22 gives as value the least number of ticks after which, if only ticks come, some timed wait ends,
 -- and 0 if there is none."
 -- A single tick is a call of the door with a tick's record, and who waits is read off the tables that such calls leave.
-use Rattle.std.specs.Prelude.{true, false, ◌≡◌, List, ℕ, zero, suc, ◌≤◌, ◌<◌, ℤ, pos, length}
+use Rattle.std.specs.Prelude.{true, false, ◌≡◌, List, ℕ, zero, suc, ◌≤◌, ◌<◌, ℤ, pos, length, Ok}
 use Rattle.rules.specs.Board.{Board}
 use Rattle.rules.specs.State.{at, counter_of, waiting}
 use Rattle.rules.specs.Table.{decode}
@@ -10,7 +10,7 @@ use Rattle.rules.specs.Answers.{area_length}
 use Rattle.rules.specs.Requests.{tick_record}
 use Rattle.rules.specs.Sound.{SoundTable}
 use Rattle.rules.specs.Door.{Doored, answered, door}
-use Rattle.rules.specs.declared.Answer.TheVariants.{Done}
+use Rattle.rules.specs.declared.Reply.TheVariants.{Done}
 use Rattle.rules.specs.declared.Request.TheVariants as Ask
 use Rattle.request.specs.Written.{written}
 
@@ -48,7 +48,7 @@ pub record Soonest (b : Board) (t a : List ℕ) (d : Doored) : Type 0 where
   -- "gives as value" this number, which the four bytes of a value hold; the table stays
   pub value : ℕ
   pub fits : value ≤ 99999
-  pub answer : d ≡ answered t (Done value)
+  pub answer : d ≡ answered t (Ok (Done value))
   -- "the least number of ticks": before, every wait goes on;
   pub before : (n : ℕ) → n < value → AllWait b t (after_ticks b t a n)
   -- "after which, if only ticks come, some timed wait ends,"

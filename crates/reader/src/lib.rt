@@ -11,7 +11,7 @@ pub struct TraceReader<'a> {
     pub at: usize,
 }
 
-// What stands at a place: a whole record, left-over bytes, or nothing.
+// What stands at a place: a whole record, left-over bytes, or nothing; three things, of which an Option would tell two.
 #[derive(Clone, Copy)]
 pub enum Read {
     Record { at: usize },
@@ -20,6 +20,7 @@ pub enum Read {
 }
 
 // What stands at a place of the bytes.
+#[tactic(auto, unfolding(crate::specs::Reading::read_at))]
 fn read_at(bytes: &[u8], at: usize) -> Read
     ensures { result ≡ read_at bytes.now at }
 {
@@ -35,33 +36,35 @@ fn read_at(bytes: &[u8], at: usize) -> Read
     }
 }
 
-// A reader at the first byte.
-pub fn new<'a>(bytes: &'a [u8]) -> TraceReader<'a>
-    ensures { (result.bytes ≡ bytes.entry) × (result.at ≡ 0) }
-{
-    TraceReader { bytes, at: 0 }
-}
-
-// The same bytes at another place.
-pub fn moved<'a>(reader: TraceReader<'a>, at: usize) -> TraceReader<'a>
-    ensures { (result.bytes ≡ reader.entry.bytes) × (result.at ≡ at) }
-{
-    TraceReader {
-        bytes: reader.bytes,
-        at,
+impl<'a> TraceReader<'a> {
+    // A reader at the first byte.
+    pub fn new(bytes: &'a [u8]) -> Self
+        ensures { (result.bytes ≡ bytes.entry) × (result.at ≡ 0) }
+    {
+        TraceReader { bytes, at: 0 }
     }
-}
 
-// What stands at the reader's place.
-pub fn next<'a>(reader: TraceReader<'a>) -> Read
-    ensures { result ≡ read_at reader.entry.bytes.now reader.entry.at }
-{
-    read_at(reader.bytes, reader.at)
+    // The same bytes at another place.
+    pub fn moved(self, at: usize) -> Self
+        ensures { (result.bytes ≡ self.entry.bytes) × (result.at ≡ at) }
+    {
+        TraceReader {
+            bytes: self.bytes,
+            at,
+        }
+    }
+
+    // What stands at the reader's place.
+    pub fn next(self) -> Read
+        ensures { result ≡ read_at self.entry.bytes.now self.entry.at }
+    {
+        read_at(self.bytes, self.at)
+    }
 }
 
 // What a reader of the bytes finds at a place.
 pub fn read_from(bytes: &[u8], at: usize) -> Read
     ensures { result ≡ read_at bytes.now at }
 {
-    next(moved(new(bytes), at))
+    TraceReader::new(bytes).moved(at).next()
 }

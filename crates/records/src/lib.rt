@@ -9,10 +9,9 @@
 #![tactic(auto)]
 
 ghost use Rattle.std.specs.Prelude.{◌≡◌, ℕ, ◌*◌, set};
-ghost use Rattle.rules.specs.Basic.{bit};
 ghost use Rattle.rules.specs.Board.{record_length};
 ghost use Rattle.rules.specs.State.{State, free, at, sem_at, edit, with_place, with_wait, with_counter, with_suspended, with_outcome, with_mail, with_priority, with_turn, with_running, with_lock};
-ghost use Rattle.rules.specs.Table.{kind_of, object_of, wait_of, outcome_byte, outcome_of, word_at};
+ghost use Rattle.rules.specs.Table.{kind_of, object_of, wait_of, word_at};
 ghost use Rattle.records.specs.Fields.{with_used};
 ghost use Rattle.layout.specs.Bytes.{word_from};
 ghost use Rattle.layout.specs.Boards.{HasThread, HasSem};
@@ -27,6 +26,8 @@ pub use waits::{counter_of, is_delaying, is_pending, is_receiving, is_sending, i
 
 // FIELDS
 
+// A wait takes three fields of a record, so no `From` of one byte reads it or writes it.
+#[tactic(auto, unfolding(rules::specs::Table::wait_of))]
 fn wait_of(kind: u8, object: u8, counter: u32) -> Wait
     ensures { result ≡ wait_of kind object counter }
 {
@@ -49,11 +50,11 @@ fn kind_of(w: Wait) -> u8
     ensures { result ≡ kind_of w }
 {
     match w {
-        Wait::Nothing { counter: _ } => 0,
-        Wait::Delay { counter: _ } => 1,
-        Wait::Receive { counter: _ } => 2,
-        Wait::Send { to: _, counter: _ } => 3,
-        Wait::Semaphore { on: _, counter: _ } => 4,
+        Wait::Nothing { .. } => 0,
+        Wait::Delay { .. } => 1,
+        Wait::Receive { .. } => 2,
+        Wait::Send { .. } => 3,
+        Wait::Semaphore { .. } => 4,
     }
 }
 
@@ -61,38 +62,10 @@ fn object_of(w: Wait) -> u8
     ensures { result ≡ object_of w }
 {
     match w {
-        Wait::Nothing { counter: _ } => 0,
-        Wait::Delay { counter: _ } => 0,
-        Wait::Receive { counter: _ } => 0,
-        Wait::Send { to, counter: _ } => to,
-        Wait::Semaphore { on, counter: _ } => on,
+        Wait::Nothing { .. } | Wait::Delay { .. } | Wait::Receive { .. } => 0,
+        Wait::Send { to, .. } => to,
+        Wait::Semaphore { on, .. } => on,
     }
-}
-
-fn outcome_of(byte: u8) -> Outcome
-    ensures { result ≡ outcome_of byte }
-{
-    match byte {
-        0 => Outcome::Done,
-        1 => Outcome::NoneYet,
-        _ => Outcome::Failed,
-    }
-}
-
-fn outcome_byte(o: Outcome) -> u8
-    ensures { result ≡ outcome_byte o }
-{
-    match o {
-        Outcome::Done => 0,
-        Outcome::NoneYet => 1,
-        Outcome::Failed => 251,
-    }
-}
-
-fn flag(b: bool) -> u8
-    ensures { result ≡ bit b }
-{
-    if b { 1 } else { 0 }
 }
 
 // THREADS
@@ -117,23 +90,21 @@ pub fn load_thread(t: &[u8], i: usize) -> Thread
     ensures { (s : State) → said t.now ≡ s → result ≡ at s.threads i }
 {
     let base = i * RECORD;
-    let counter = words::word_at(t, base + field::COUNTER);
-    let wait = wait_of(t[base + field::KIND], t[base + field::OBJECT], counter);
-    let outcome = outcome_of(t[base + field::OUTCOME]);
-    let turn = words::word_at(t, base + field::TURN);
-    let value = words::word_at(t, base + field::VALUE);
-    let parcel = words::word_at(t, base + field::PARCEL);
     Thread {
         used: t[base + field::USED] == 1,
         priority: t[base + field::PRIORITY],
         suspended: t[base + field::SUSPENDED] == 1,
-        wait,
+        wait: wait_of(
+            t[base + field::KIND],
+            t[base + field::OBJECT],
+            words::word_at(t, base + field::COUNTER),
+        ),
         place: t[base + field::PLACE],
         full: t[base + field::FULL] == 1,
-        outcome,
-        turn,
-        value,
-        parcel,
+        outcome: Outcome::from(t[base + field::OUTCOME]),
+        turn: words::word_at(t, base + field::TURN),
+        value: words::word_at(t, base + field::VALUE),
+        parcel: words::word_at(t, base + field::PARCEL),
     }
 }
 
@@ -150,14 +121,14 @@ pub fn thread_at(t: &[u8], i: u8) -> Thread
     requires { Long t.now }
     ensures { (s : State) → said t.now ≡ s → result ≡ at s.threads i }
 {
-    let k = i as usize;
+    let k = usize::from(i);
     if k >= boards::threads(t) {
         return FREE;
     }
     load_thread(t, k)
 }
 
-// The place of thread `i`.
+// The place of thread `i`. Each field has a function of its own: the promise of each names another rule, and crate `tight` has a theorem of each.
 pub fn set_place(t: &mut [u8], i: usize, place: u8)
     requires { HasThread t.old i × Whole t.old }
     ensures { Becomes t.old t.new (on_threads (edit i (with_place place))) }
@@ -187,8 +158,8 @@ pub fn set_outcome(t: &mut [u8], i: usize, o: Outcome, parcel: u32)
     ensures { Becomes t.old t.new (on_threads (edit i (with_outcome o parcel))) }
 {
     let base = i * RECORD;
-    t[base + field::OUTCOME] = outcome_byte(o);
     words::put_word(t, base + field::PARCEL, parcel);
+    t[base + field::OUTCOME] = u8::from(o);
 }
 
 // The mailbox of thread `i`: full or empty, with its value.
@@ -197,8 +168,8 @@ pub fn set_mail(t: &mut [u8], i: usize, full: bool, value: u32)
     ensures { Becomes t.old t.new (on_threads (edit i (with_mail full value))) }
 {
     let base = i * RECORD;
-    t[base + field::FULL] = flag(full);
     words::put_word(t, base + field::VALUE, value);
+    t[base + field::FULL] = u8::from(full);
 }
 
 // WHAT A THREAD'S LINE GOES BY
@@ -209,9 +180,9 @@ pub fn set_wait(t: &mut [u8], i: usize, w: Wait)
     ensures { Changes t.old t.new (on_threads (edit i (with_wait w))) }
 {
     let base = i * RECORD;
+    words::put_word(t, base + field::COUNTER, counter_of(w));
     t[base + field::KIND] = kind_of(w);
     t[base + field::OBJECT] = object_of(w);
-    words::put_word(t, base + field::COUNTER, counter_of(w));
 }
 
 // Whether thread `i` is suspended.
@@ -219,7 +190,7 @@ pub fn set_suspended(t: &mut [u8], i: usize, suspended: bool)
     requires { HasThread t.old i × Laid t.old }
     ensures { Changes t.old t.new (on_threads (edit i (with_suspended suspended))) }
 {
-    t[i * RECORD + field::SUSPENDED] = flag(suspended);
+    t[i * RECORD + field::SUSPENDED] = u8::from(suspended);
 }
 
 // The priority of thread `i`.
@@ -235,7 +206,7 @@ fn set_used(t: &mut [u8], i: usize, used: bool)
     requires { HasThread t.old i × Laid t.old }
     ensures { Changes t.old t.new (on_threads (edit i (with_used used))) }
 {
-    t[i * RECORD + field::USED] = flag(used);
+    t[i * RECORD + field::USED] = u8::from(used);
 }
 
 // Thread `i` becomes `th`.
@@ -243,16 +214,14 @@ pub fn store_thread(t: &mut [u8], i: usize, th: Thread)
     requires { HasThread t.old i × Whole t.old }
     ensures { Changes t.old t.new (on_threads (edit i (λ x. th))) }
 {
-    let w = th.wait;
-    let o = th.outcome;
     set_place(t, i, th.place);
     set_mail(t, i, th.full, th.value);
-    set_outcome(t, i, o, th.parcel);
+    set_outcome(t, i, th.outcome, th.parcel);
     set_turn(t, i, th.turn);
     set_used(t, i, th.used);
     set_priority(t, i, th.priority);
     set_suspended(t, i, th.suspended);
-    set_wait(t, i, w);
+    set_wait(t, i, th.wait);
 }
 
 // Record `i` becomes free.
@@ -283,7 +252,7 @@ pub fn set_sem(t: &mut [u8], k: usize, e: Sem)
     ensures { Becomes t.old t.new (on_sems (λ es. set es k e)) }
 {
     let base = boards::semaphore_from(t, k);
-    t[base + field::USED] = flag(e.used);
+    t[base + field::USED] = u8::from(e.used);
     t[base + field::COUNT] = e.count;
 }
 
@@ -294,7 +263,7 @@ pub fn running(t: &[u8]) -> usize
     requires { Long t.now }
     ensures { (s : State) → said t.now ≡ s → result ≡ s.running }
 {
-    t[boards::kernel_from(t) + field::RUNNING] as usize
+    usize::from(t[boards::kernel_from(t) + field::RUNNING])
 }
 
 // The lock count.
@@ -311,6 +280,7 @@ pub fn set_running(t: &mut [u8], i: usize)
     ensures { Becomes t.old t.new (with_running i) }
 {
     let base = boards::kernel_from(t);
+    // the number of a thread is a byte, so there is no refusal for `try_from` to give
     t[base + field::RUNNING] = i as u8;
 }
 

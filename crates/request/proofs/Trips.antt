@@ -1,10 +1,9 @@
 -- A record that asks a request is the one that the request is written as: each of its bytes is that of a field, an unused field is zero,
 -- and the request holds the others. Assumes nothing.
-use Rattle.std.specs.Prelude.{if◌then◌else◌}
+use Rattle.std.specs.Prelude.{if◌then◌else◌, Some, Option, None}
 use mathlib.Core.Path.{◌≡◌, refl, sym, ap, ◌∙◌}
 use mathlib.Core.Bool.{Bool, true, false}
 use mathlib.Core.List.{List, [], ◌∷◌}
-use mathlib.Core.Option.{Option, none, some}
 use Prim.Native.Nat.{ℕ, zero, suc, ◌+◌}
 use native.Mathlib.Omega.{arith}
 use lib.ListN.{length, get_or}
@@ -12,7 +11,6 @@ use borrow.Author.Tests.{eqb-true}
 use Rattle.rules.specs.Table.{word_at}
 use Rattle.rules.specs.Requests.{Operation, operations, request_length, kept, decode_request}
 use Rattle.rules.specs.declared.Request.{Request}
-use Rattle.rules.specs.declared.Decoded.TheVariants.{Asked}
 use Rattle.laws.proofs.Words.{word_of}
 use Rattle.request.specs.Written.{fields_of, record_bytes, written}
 use Rattle.request.specs.Trips.{Bytes, Trips}
@@ -60,8 +58,8 @@ only_kept false field e = sym (eqb-true field 0 e)
 
 -- what is said of an operation, where there is one
 said_of : (Operation → Fields) → Option Operation → Option Fields
-said_of f none = none
-said_of f (some u) = some (f u)
+said_of f None = None
+said_of f (Some u) = Some (f u)
 
 -- a table's lines with their numbers, the first of which is i
 numbered : (ℕ → Operation → Fields) → ℕ → List (Option Operation) → List (Option Fields)
@@ -69,11 +67,11 @@ numbered f i [] = []
 numbered f i (u ∷ us) = said_of (f i) u ∷ numbered f (suc i) us
 
 numbered_at : (f g : ℕ → Operation → Fields) (us : List (Option Operation)) (i j k : ℕ) (u : Operation) → k ≡ i + j → numbered f i us ≡ numbered g i us
-    → get_or us j none ≡ some u → f k u ≡ g k u
+    → get_or us j None ≡ Some u → f k u ≡ g k u
 unfolding numbered said_of
 numbered_at f g [] i j k u e q h = let z : ◌≡◌ {A = ℕ} 0 1 = cc in absurd (omega arith)
-numbered_at f g (none ∷ us) i zero k u e q h = let z : ◌≡◌ {A = ℕ} 0 1 = cc in absurd (omega arith)
-numbered_at f g (some v ∷ us) i zero k u e q h = let n : k ≡ i = omega arith in cc
+numbered_at f g (None ∷ us) i zero k u e q h = let z : ◌≡◌ {A = ℕ} 0 1 = cc in absurd (omega arith)
+numbered_at f g (Some v ∷ us) i zero k u e q h = let n : k ≡ i = omega arith in cc
 numbered_at f g (v ∷ us) i (suc j) k u e q h =
     let rest : numbered f (suc i) us ≡ numbered g (suc i) us = cc in
     numbered_at f g us (suc i) j k u (omega arith) rest h
@@ -98,13 +96,13 @@ module _ (o p n d : ℕ) where
       rw (only_kept u.object o k.object, only_kept u.priority p k.priority, only_kept u.number n k.number, only_kept u.parcel d k.parcel) at e
 
 -- the fields of the request that a record asks are the record's
-pub fields_read : (r : List ℕ) (q : Request) → decode_request r ≡ Asked q → fields_of q ≡ (get_or r 0 0, get_or r 1 0, get_or r 2 0, word_at r 4, word_at r 8)
+pub fields_read : (r : List ℕ) (q : Request) → decode_request r ≡ Some q → fields_of q ≡ (get_or r 0 0, get_or r 1 0, get_or r 2 0, word_at r 4, word_at r 8)
 fields_read r q e =
     let x = parts_of r q e in
     let same : q ≡ made x = cc (parts_asked r x) in
     ap fields_of same ∙ fields_made (get_or r 1 0) (get_or r 2 0) (word_at r 4) (word_at r 8) (get_or r 0 0) x.fields
 
-written_back : (r : List ℕ) → Bytes r → (q : Request) → decode_request r ≡ Asked q → written q ≡ r
+written_back : (r : List ℕ) → Bytes r → (q : Request) → decode_request r ≡ Some q → written q ≡ r
 unfolding written
 written_back r byte q e =
     let x = parts_of r q e in

@@ -1,90 +1,92 @@
 // A request record of 12 bytes, decoded to the request that it asks.
 #![tactic(auto)]
 
-ghost use Rattle.std.specs.Prelude.{if◌then◌else◌, ◌≡◌};
+ghost use Rattle.std.specs.Prelude.{◌≡◌};
 ghost use Rattle.rules.specs.Requests.{request_of, decode_request};
 
-use rules::{Decoded, Request};
+use rules::Request;
 
-// A request, if the fields that it does not use are zero.
-fn asked_if(zeroed: bool, request: Request) -> Decoded
-    ensures { result ≡ (if zeroed then Decoded.Asked request else Decoded.Bad) }
-{
-    if zeroed {
-        Decoded::Asked { request }
-    } else {
-        Decoded::Bad
-    }
+// A record's fields, of which each operation uses some: "byte 0 operation; 1 object; 2 priority; 3 zero; 4-7 number; 8-11 data".
+#[derive(Clone, Copy)]
+pub struct Fields {
+    pub operation: u8,
+    pub object: u8,
+    pub priority: u8,
+    pub number: u32,
+    pub parcel: u32,
 }
 
-// The request of an operation's number and its four fields.
-pub fn request_of(operation: u8, object: u8, priority: u8, number: u32, parcel: u32) -> Decoded
-    ensures { result ≡ request_of operation object priority number parcel }
+// The request that a record's fields ask; none where no operation has that number, or where a field that it does not use is not zero.
+#[tactic(auto, unfolding(rules::specs::Requests::request_of))]
+pub fn request_of(fields: Fields) -> Option<Request>
+    ensures { result ≡ request_of fields.operation fields.object fields.priority fields.number fields.parcel }
 {
     // The fields that are zero.
-    let o = object == 0;
-    let p = priority == 0;
-    let n = number == 0;
-    let d = parcel == 0;
-    // The names that an operation has for its object and its number.
-    let thread = object;
-    let semaphore = object;
-    let turn = number;
-    match operation {
-        0 => asked_if(o & p & n & d, Request::Yield),
-        1 => asked_if(
-            d,
-            Request::Create {
-                thread,
-                priority,
-                turn,
-            },
-        ),
-        2 => asked_if(p & n & d, Request::Delete { thread }),
-        3 => Decoded::Bad,
-        4 => asked_if(p & n & d, Request::Suspend { thread }),
-        5 => asked_if(p & n & d, Request::Resume { thread }),
-        6 => asked_if(o & p & d, Request::Delay { number }),
-        7 => asked_if(p & n & d, Request::Cancel { thread }),
-        8 => asked_if(
-            p,
-            Request::Send {
-                thread,
-                number,
-                parcel,
-            },
-        ),
-        9 => asked_if(p & n, Request::SendFromInterrupt { thread, parcel }),
-        10 => asked_if(o & p & d, Request::Receive { number }),
-        11 => asked_if(p & d, Request::Make { semaphore, number }),
-        12 => asked_if(p & n & d, Request::Drop { semaphore }),
-        13 => asked_if(p & d, Request::Pend { semaphore, number }),
-        14 => asked_if(p & n & d, Request::Abort { thread }),
-        15 => asked_if(p & d, Request::Post { semaphore, number }),
-        16 => asked_if(p & d, Request::PostFromInterrupt { semaphore, number }),
-        17 => asked_if(o & p & n & d, Request::Lock),
-        18 => asked_if(o & p & n & d, Request::Unlock),
-        19 => asked_if(o & p & n & d, Request::Tick),
-        20 => asked_if(p & n & d, Request::Outcome { thread }),
-        21 => asked_if(o & p & d, Request::Ticks { number }),
-        22 => asked_if(o & p & n & d, Request::Nearest),
-        23 => asked_if(n & d, Request::SetPriority { thread, priority }),
-        24 => asked_if(p & d, Request::SetTurn { thread, turn }),
-        _ => Decoded::Bad,
+    let o = fields.object == 0;
+    let p = fields.priority == 0;
+    let n = fields.number == 0;
+    let d = fields.parcel == 0;
+    // The names that an operation has for its fields.
+    let thread = fields.object;
+    let semaphore = fields.object;
+    let priority = fields.priority;
+    let turn = fields.number;
+    let number = fields.number;
+    let parcel = fields.parcel;
+    match fields.operation {
+        0 => (o & p & n & d).then_some(Request::Yield),
+        1 => d.then_some(Request::Create {
+            thread,
+            priority,
+            turn,
+        }),
+        2 => (p & n & d).then_some(Request::Delete { thread }),
+        3 => None,
+        4 => (p & n & d).then_some(Request::Suspend { thread }),
+        5 => (p & n & d).then_some(Request::Resume { thread }),
+        6 => (o & p & d).then_some(Request::Delay { number }),
+        7 => (p & n & d).then_some(Request::Cancel { thread }),
+        8 => p.then_some(Request::Send {
+            thread,
+            number,
+            parcel,
+        }),
+        9 => (p & n).then_some(Request::SendFromInterrupt { thread, parcel }),
+        10 => (o & p & d).then_some(Request::Receive { number }),
+        11 => (p & d).then_some(Request::Make { semaphore, number }),
+        12 => (p & n & d).then_some(Request::Drop { semaphore }),
+        13 => (p & d).then_some(Request::Pend { semaphore, number }),
+        14 => (p & n & d).then_some(Request::Abort { thread }),
+        15 => (p & d).then_some(Request::Post { semaphore, number }),
+        16 => (p & d).then_some(Request::PostFromInterrupt { semaphore, number }),
+        17 => (o & p & n & d).then_some(Request::Lock),
+        18 => (o & p & n & d).then_some(Request::Unlock),
+        19 => (o & p & n & d).then_some(Request::Tick),
+        20 => (p & n & d).then_some(Request::Outcome { thread }),
+        21 => (o & p & d).then_some(Request::Ticks { number }),
+        22 => (o & p & n & d).then_some(Request::Nearest),
+        23 => (n & d).then_some(Request::SetPriority { thread, priority }),
+        24 => (p & d).then_some(Request::SetTurn { thread, turn }),
+        _ => None,
     }
 }
 
 // What a record of any length asks, if it asks anything.
-pub fn decode(record: &[u8]) -> Decoded
+#[tactic(auto, unfolding(rules::specs::Requests::decode_request))]
+pub fn decode(record: &[u8]) -> Option<Request>
     ensures { result ≡ decode_request «record».now }
 {
     if record.len() != rules::REQUEST {
-        return Decoded::Bad;
+        return None;
     }
     if record[3] != 0 {
-        return Decoded::Bad;
+        return None;
     }
-    let number = words::word_at(record, 4);
-    let parcel = words::word_at(record, 8);
-    request_of(record[0], record[1], record[2], number, parcel)
+    request_of(Fields {
+        operation: record[0],
+        object: record[1],
+        priority: record[2],
+        number: words::word_at(record, 4),
+        parcel: words::word_at(record, 8),
+    })
 }

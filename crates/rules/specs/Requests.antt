@@ -1,11 +1,8 @@
 -- "Requests: records of 12 bytes, no header. Byte 0 operation; 1 object; 2 priority; 3 zero; 4-7 number; 8-11 data."
-use Rattle.std.specs.Prelude.{if◌then◌else◌, Bool, true, false, ◌&&◌, ◌||◌, List, [], ◌∷◌, ℕ, pred, eqb, length, get_or, replicate}
-use Rattle.std.proofs.Math.Option.{Option, none, some}
+use Rattle.std.specs.Prelude.{if◌then◌else◌, Bool, true, false, ◌&&◌, ◌||◌, List, [], ◌∷◌, ℕ, pred, eqb, length, get_or, replicate, Option, Some, None}
 use Rattle.rules.specs.Table.{word_at}
 use Rattle.rules.specs.declared.Request.{Request}
 use Rattle.rules.specs.declared.Request.TheVariants as Ask
-use Rattle.rules.specs.declared.Decoded.{Decoded}
-use Rattle.rules.specs.declared.Decoded.TheVariants.{Asked, Bad}
 
 abbrev pub request_length : ℕ
 request_length = 12
@@ -25,11 +22,11 @@ abbrev ✗ : Bool
 ✗ = false
 
 abbrev uses : Bool → Bool → Bool → Bool → (ℕ → ℕ → ℕ → ℕ → Request) → Option Operation
-uses o p n d r = some (record { object = o; priority = p; number = n; parcel = d; asks = r })
+uses o p n d r = Some (record { object = o; priority = p; number = n; parcel = d; asks = r })
 
 -- a number that has no operation any more
 abbrev gone : Option Operation
-gone = none
+gone = None
 
 -- document 01's column "Uses", in the order of the operations' numbers: object, priority, number, data. 21 and 22 are order 7's: 21 "takes a
 -- number". Order 8: "Operation 3 is gone. 23 uses object and priority, 24 object and number."
@@ -70,22 +67,22 @@ operation_of operation = get_or operations operation gone
 abbrev pub kept : Bool → ℕ → Bool
 kept used field = used || eqb field 0
 
-abbrev pub asked_by : Option Operation → ℕ → ℕ → ℕ → ℕ → Decoded
-asked_by none o p n d = Bad
-asked_by (some u) o p n d =
-    if kept u.object o && kept u.priority p && kept u.number n && kept u.parcel d then Asked (u.asks o p n d) else Bad
+abbrev pub asked_by : Option Operation → ℕ → ℕ → ℕ → ℕ → Option Request
+asked_by None o p n d = None
+asked_by (Some u) o p n d =
+    if kept u.object o && kept u.priority p && kept u.number n && kept u.parcel d then Some (u.asks o p n d) else None
 
 -- the request of an operation's number and its four fields
-unfoldable pub request_of : ℕ → ℕ → ℕ → ℕ → ℕ → Decoded
+unfoldable pub request_of : ℕ → ℕ → ℕ → ℕ → ℕ → Option Request
 request_of operation o p n d = asked_by (operation_of operation) o p n d
 
 -- "−8: record not 12 bytes, operation above 20, byte 3 or an unused field not zero"; order 8: "−8 for 3
 -- and above 24"
-unfoldable pub decode_request : List ℕ → Decoded
+unfoldable pub decode_request : List ℕ → Option Request
 decode_request r =
     if eqb (length r) request_length && eqb (get_or r 3 0) 0
     then request_of (get_or r 0 0) (get_or r 1 0) (get_or r 2 0) (word_at r 4) (word_at r 8)
-    else Bad
+    else None
 
 -- the record of "19 Tick", which uses no field
 abbrev pub tick_record : List ℕ

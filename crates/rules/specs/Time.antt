@@ -1,5 +1,5 @@
 -- The scheduler lock, the tick, and Outcome.
-use Rattle.std.specs.Prelude.{if◌then◌else◌, not, ◌||◌, List, ℕ, zero, suc, pred, eqb, leb, length}
+use Rattle.std.specs.Prelude.{if◌then◌else◌, not, ◌||◌, List, ℕ, zero, suc, pred, eqb, leb, length, Ok}
 use Rattle.rules.specs.Board.{most_lock}
 use Rattle.rules.specs.State.{State, at, counter_of, waiting, with_counter, with_lock, edit}
 use Rattle.rules.specs.Lines.{move}
@@ -10,7 +10,8 @@ use Rattle.rules.specs.declared.Wait.{Wait}
 use Rattle.rules.specs.declared.Wait.TheVariants.{Nothing, Delay, Receive, Send, Semaphore}
 use Rattle.rules.specs.declared.Outcome.{Outcome}
 use Rattle.rules.specs.declared.Outcome.TheVariants.{Done, NoneYet, Failed}
-use Rattle.rules.specs.declared.Answer as Answers
+use Rattle.rules.specs.Answers.{Answer}
+use Rattle.rules.specs.declared.Reply.TheVariants as Reply
 use Rattle.rules.specs.declared.Refusal.TheVariants.{BadThread, BadOperation}
 
 -- "Lock −5 at 255."
@@ -55,10 +56,10 @@ unfoldable pub do_tick : State → Step
 do_tick s = accept_threads s (timeouts (length s.threads) (charged s))
 
 -- "Outcome −1: code is the outcome, value the parcel if that is 0, else 0."
-abbrev pub outcome_answer : Outcome → ℕ → Answers.Answer
-outcome_answer Done x = Answers.TheVariants.Done x
-outcome_answer NoneYet x = Answers.TheVariants.NoneYet
-outcome_answer Failed x = Answers.TheVariants.Failed
+abbrev pub outcome_answer : Outcome → ℕ → Answer
+outcome_answer Done x = Ok (Reply.Done x)
+outcome_answer NoneYet x = Ok Reply.NoneYet
+outcome_answer Failed x = Ok Reply.Failed
 
 unfoldable pub do_outcome : State → ℕ → Step
 do_outcome s i =

@@ -1,5 +1,5 @@
 -- How a step ends, and how a wait begins and ends.
-use Rattle.std.specs.Prelude.{if◌then◌else◌, Bool, ◌||◌, List, ℕ, zero, suc, eqb, ltb}
+use Rattle.std.specs.Prelude.{if◌then◌else◌, Bool, ◌||◌, List, ℕ, zero, suc, eqb, ltb, Ok, Err}
 use Rattle.rules.specs.Board.{most_ticks}
 use Rattle.rules.specs.State.{State, caller, with_wait, with_outcome, with_threads}
 use Rattle.rules.specs.Lines.{Line, line, line_length, first, move, settle}
@@ -10,8 +10,8 @@ use Rattle.rules.specs.declared.Outcome.{Outcome}
 use Rattle.rules.specs.declared.Outcome.TheVariants.{NoneYet}
 use Rattle.rules.specs.declared.Refusal.{Refusal}
 use Rattle.rules.specs.declared.Refusal.TheVariants.{BadOperation}
-use Rattle.rules.specs.declared.Answer.{Answer}
-use Rattle.rules.specs.declared.Answer.TheVariants.{Done, Blocked, Refused}
+use Rattle.rules.specs.Answers.{Answer}
+use Rattle.rules.specs.declared.Reply.TheVariants.{Done, Blocked}
 
 -- THE END OF A STEP
 
@@ -21,10 +21,10 @@ pub record Step : Type 0 where
 
 -- "On every other refusal the table is untouched."
 abbrev pub refuse : State → Refusal → Step
-refuse s why = record { state = s; answer = Refused why }
+refuse s why = record { state = s; answer = Err why }
 
 abbrev pub accept : State → ℕ → Step
-accept s v = record { state = settle s; answer = Done v }
+accept s v = record { state = settle s; answer = Ok (Done v) }
 
 -- the same where only threads change
 abbrev pub accept_threads : State → List Thread → Step
@@ -58,7 +58,7 @@ ahead s w = line_length (line (with_wait w (caller s))) s.threads
 
 -- "Otherwise it leaves its ready line, joins its line's tail (a delay or receive has none), counter becomes the number [..], answer 1."
 unfoldable pub block : State → Wait → ℕ → Step
-block s w x = record { state = settle (with_threads (move s.running (begun w x) s.threads) s); answer = Blocked (ahead s w) }
+block s w x = record { state = settle (with_threads (move s.running (begun w x) s.threads) s); answer = Ok (Blocked (ahead s w)) }
 
 -- Init, or a caller under lock, never waits
 abbrev pub may_not_wait : State → Bool

@@ -1,11 +1,11 @@
 // The words of document 01 as types: what a table holds, what is asked of it, and what is answered. Its numbers stand in `numbers`, where
-// the fields of a record stand in `field`, and its refusals as answers in `refused`.
-// What they mean is said in specs/, in definitions that compute; there is no code here.
+// the fields of a record stand in `field`, and the bytes and codes that stand for some of the words in `codes`, as conversions.
+// What they mean is said in specs/, in definitions that compute.
 #![tactic(auto)]
 
+mod codes;
 pub mod field;
 mod numbers;
-pub mod refused;
 
 pub use numbers::{
     AREA, KERNEL_FROM, MOST_COUNT, MOST_LOCK, MOST_THREADS, MOST_TICKS, PRIORITIES, RECORD,
@@ -24,7 +24,7 @@ pub enum Wait {
 }
 
 // How a thread's last wait ended.
-#[derive(Clone, Copy)]
+#[derive(Clone, Copy, PartialEq, Eq)]
 pub enum Outcome {
     Done,
     NoneYet,
@@ -131,33 +131,36 @@ pub enum Request {
     },
 }
 
-// What a record of 12 bytes asks, if it asks anything.
-#[derive(Clone, Copy)]
-pub enum Decoded {
-    Asked { request: Request },
-    Bad,
-}
-
 // Why a request is refused: −1 to −8, in this order.
-#[derive(Clone, Copy)]
+#[derive(Clone, Copy, PartialEq, Eq)]
 pub enum Refusal {
+    // "Thread number above 15, or free (Create: in use)."
     BadThread,
+    // "Priority above 31."
     BadPriority,
+    // "Turn or delay 0 or above 99,999."
     BadTicks,
+    // "Suspend: already suspended; Resume: not; Cancel: not in a delay; Abort: not waiting on a semaphore."
     BadState,
+    // "As said under each operation."
     BadOperation,
+    // "Semaphore number above 7, or free (Make: in use)."
     BadSemaphore,
+    // "Table unsound, or answer area not 8 bytes."
     BadTable,
+    // "Record not 12 bytes, operation above 20, byte 3 or an unused field not zero"; order 7: "−8 now starts above 22".
     BadRecord,
 }
 
-// What is answered. `Blocked` says how many stand in the line ahead of the caller. `NoneYet` and `Failed` answer an Outcome that is 1 or −5:
-// they are no refusals.
+// What a request that is not refused is told. `Blocked` says how many stand in the line ahead of the caller. `NoneYet` and `Failed` tell an
+// outcome that is 1 or −5.
 #[derive(Clone, Copy)]
-pub enum Answer {
+pub enum Reply {
     Done { value: u32 },
     Blocked { ahead: u32 },
     NoneYet,
     Failed,
-    Refused { why: Refusal },
 }
+
+// What is answered: a reply, or why not.
+pub type Answer = Result<Reply, Refusal>;

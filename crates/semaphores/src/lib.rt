@@ -4,34 +4,37 @@
 // The promises are those of crate `waiting`: `Becomes` for a change, `Does` for an operation.
 #![tactic(auto)]
 
-ghost use Rattle.std.specs.Prelude.{◌||◌, ◌≡◌, ◌+◌, min, eqb, ltb};
+ghost use Rattle.std.specs.Prelude.{if◌then◌else◌, ◌||◌, ◌≡◌, ◌+◌, eqb, ltb, Ok, Err};
 ghost use Rattle.rules.specs.Board.{most_count};
 ghost use Rattle.rules.specs.State.{State, sem_at};
-ghost use Rattle.rules.specs.Semaphores.{with_count, do_make, do_drop, do_pend, do_abort, do_post, do_post_from_interrupt};
+ghost use Rattle.rules.specs.Semaphores.{no_sem, with_count, do_make, do_drop, do_pend, do_abort, do_post, do_post_from_interrupt};
+ghost use Rattle.rules.specs.declared.Refusal.TheVariants.{BadSemaphore};
 ghost use Rattle.layout.specs.Boards.{HasSem};
 ghost use Rattle.layout.specs.Held.{Long, said, Whole, Becomes};
 ghost use Rattle.waiting.specs.Does.{Serves, Does};
 
-use rules::{Answer, Outcome, Sem, Wait, refused};
+use rules::{Answer, Outcome, Refusal, Sem, Wait};
 
 // "Semaphore count 0 to 99": the most of it, as a request's number.
 const MOST_COUNT: u32 = rules::MOST_COUNT as u32;
 
 // SEMAPHORES BY NUMBER
 
-// Semaphore `k`, by the number that a request gives: one out of range reads as a free record.
-fn sem_at(t: &[u8], k: u8) -> Sem
+// Semaphore `k`, if it is in use. "Semaphore number above 7, or free" is refused by −6.
+fn in_use(t: &[u8], k: u8) -> Result<Sem, Refusal>
     requires { Long t.now }
-    ensures { (s : State) → said t.now ≡ s → result ≡ sem_at s.sems k }
+    ensures { (s : State) → said t.now ≡ s → result ≡ (if no_sem s k then Err BadSemaphore else Ok (sem_at s.sems k)) }
 {
     let j = k as usize;
     if j >= boards::semaphores(t) {
-        return Sem {
-            used: false,
-            count: 0,
-        };
+        return Err(Refusal::BadSemaphore);
     }
-    records::load_sem(t, j)
+    let e = records::load_sem(t, j);
+    if e.used {
+        Ok(e)
+    } else {
+        Err(Refusal::BadSemaphore)
+    }
 }
 
 // Semaphore `k` is in use with that count.
@@ -50,15 +53,11 @@ pub fn make(t: &mut [u8], k: u8, n: u32) -> Answer
     ensures { Does t.old t.new result (λ s. do_make s k n) }
 {
     let j = k as usize;
-    if j >= boards::semaphores(t) {
-        return refused::BAD_SEMAPHORE;
-    }
-    let e = records::load_sem(t, j);
-    if e.used {
-        return refused::BAD_SEMAPHORE;
+    if j >= boards::semaphores(t) || records::load_sem(t, j).used {
+        return Err(Refusal::BadSemaphore);
     }
     if n > MOST_COUNT {
-        return refused::BAD_OPERATION;
+        return Err(Refusal::BadOperation);
     }
     set_count(t, j, n as u8);
     waiting::accept(t, 0)
@@ -69,10 +68,7 @@ pub fn drop_semaphore(t: &mut [u8], k: u8) -> Answer
     requires { Serves t.old }
     ensures { Does t.old t.new result (λ s. do_drop s k) }
 {
-    let e = sem_at(t, k);
-    if !e.used {
-        return refused::BAD_SEMAPHORE;
-    }
+    in_use(t, k)?;
     let line = marks::waiters_line(k);
     let n = lines::line_length(t, line);
     waiting::serve(t, n, line, Outcome::Failed);
@@ -94,14 +90,11 @@ pub fn pend(t: &mut [u8], k: u8, n: u32) -> Answer
     requires { Serves t.old }
     ensures { Does t.old t.new result (λ s. do_pend s k n) }
 {
-    let e = sem_at(t, k);
-    if !e.used {
-        return refused::BAD_SEMAPHORE;
-    }
+    let e = in_use(t, k)?;
     if e.count > 0 {
         let left = e.count - 1;
         set_count(t, k as usize, left);
-        return waiting::accept(t, left as u32);
+        return waiting::accept(t, u32::from(left));
     }
     let counter = waiting::wait_counter(n);
     waiting::must_wait(t, n, Wait::Semaphore { on: k, counter }, 0)
@@ -112,31 +105,18 @@ pub fn abort(t: &mut [u8], i: u8) -> Answer
     requires { Serves t.old }
     ensures { Does t.old t.new result (λ s. do_abort s i) }
 {
-    let th = records::thread_at(t, i);
-    let w = th.wait;
+    let w = records::thread_at(t, i).wait;
     waiting::break_off(t, i, records::is_pending(w))
 }
 
 // POST
 
-// Order 4: "number 0 or when the count plus the units left over after the waiters are served is above 99".
+// Order 4: "number 0 or when the count plus the units left over after the waiters are served is above 99". More than 99 left over is too
+// many by itself, so that the sum does not wrap.
 fn too_many(count: u8, n: u32, over: u32) -> bool
     ensures { result ≡ (eqb n 0 || ltb most_count (count + over)) }
 {
-    if n == 0 {
-        return true;
-    }
-    if over > MOST_COUNT {
-        return true;
-    }
-    count as u32 + over > MOST_COUNT
-}
-
-// How many of `n` units go to so many waiters.
-fn served_by(n: u32, waiters: u8) -> u8
-    ensures { result ≡ min n waiters }
-{
-    if n < waiters as u32 { n as u8 } else { waiters }
+    n == 0 || over > MOST_COUNT || u32::from(count) + over > MOST_COUNT
 }
 
 // The units go to the waiters in line order, and the rest is added to the count. Refused in the order −6, −5.
@@ -144,17 +124,14 @@ pub fn post(t: &mut [u8], k: u8, n: u32) -> Answer
     requires { Serves t.old }
     ensures { Does t.old t.new result (λ s. do_post s k n) }
 {
-    let e = sem_at(t, k);
-    if !e.used {
-        return refused::BAD_SEMAPHORE;
-    }
+    let e = in_use(t, k)?;
     let line = marks::waiters_line(k);
-    let served = served_by(n, lines::line_length(t, line));
-    let over = n - served as u32;
+    let served = n.min(u32::from(lines::line_length(t, line)));
+    let over = n - served;
     if too_many(e.count, n, over) {
-        return refused::BAD_OPERATION;
+        return Err(Refusal::BadOperation);
     }
-    waiting::serve(t, served, line, Outcome::Done);
+    waiting::serve(t, served as u8, line, Outcome::Done);
     set_count(t, k as usize, e.count + over as u8);
     waiting::accept(t, 0)
 }
@@ -164,12 +141,9 @@ pub fn post_from_interrupt(t: &mut [u8], k: u8, n: u32) -> Answer
     requires { Serves t.old }
     ensures { Does t.old t.new result (λ s. do_post_from_interrupt s k n) }
 {
-    let e = sem_at(t, k);
-    if !e.used {
-        return refused::BAD_SEMAPHORE;
-    }
+    in_use(t, k)?;
     if records::lock(t) > 0 {
-        return refused::BAD_OPERATION;
+        return Err(Refusal::BadOperation);
     }
     post(t, k, n)
 }

@@ -9,7 +9,7 @@ ghost use Rattle.rules.specs.State.{is_ready};
 ghost use Rattle.rules.specs.Threads.{do_yield, do_create, do_delete, do_suspend, do_resume, do_delay, do_cancel, do_set_priority, do_set_turn};
 ghost use Rattle.waiting.specs.Does.{Serves, Does};
 
-use rules::{Answer, TOP_PRIORITY, Thread, Wait, refused};
+use rules::{Answer, Refusal, Thread, Wait};
 
 mod changes;
 mod refusals;
@@ -32,19 +32,11 @@ pub fn create(t: &mut [u8], i: u8, priority: u8, turn: u32) -> Answer
     requires { Serves t.old }
     ensures { Does t.old t.new result (λ s. do_create s i priority turn) }
 {
-    if priority > TOP_PRIORITY {
-        return refused::BAD_PRIORITY;
-    }
-    if refusals::bad_ticks(turn) {
-        return refused::BAD_TICKS;
-    }
+    refusals::good_priority(priority)?;
+    refusals::good_ticks(turn)?;
     let k = i as usize;
-    if k >= boards::threads(t) {
-        return refused::BAD_THREAD;
-    }
-    let th = records::load_thread(t, k);
-    if th.used {
-        return refused::BAD_THREAD;
+    if k >= boards::threads(t) || records::load_thread(t, k).used {
+        return Err(Refusal::BadThread);
     }
     changes::create_thread(t, k, priority, turn);
     waiting::accept(t, 0)
@@ -55,12 +47,8 @@ pub fn delete(t: &mut [u8], i: u8) -> Answer
     requires { Serves t.old }
     ensures { Does t.old t.new result (λ s. do_delete s i) }
 {
-    if waiting::no_thread(t, i) {
-        return refused::BAD_THREAD;
-    }
-    if refusals::is_bound(t, i) {
-        return refused::BAD_OPERATION;
-    }
+    waiting::in_use(t, i)?;
+    refusals::not_bound(t, i)?;
     changes::delete_thread(t, i);
     waiting::accept(t, 0)
 }
@@ -70,22 +58,17 @@ pub fn suspend(t: &mut [u8], i: u8) -> Answer
     requires { Serves t.old }
     ensures { Does t.old t.new result (λ s. do_suspend s i) }
 {
-    let th = records::thread_at(t, i);
-    if !th.used {
-        return refused::BAD_THREAD;
-    }
+    let th = waiting::in_use(t, i)?;
     if th.suspended {
-        return refused::BAD_STATE;
+        return Err(Refusal::BadState);
     }
-    if refusals::is_bound(t, i) {
-        return refused::BAD_OPERATION;
-    }
+    refusals::not_bound(t, i)?;
     let k = i as usize;
     if lines::is_ready(th) {
         changes::stop(t, k);
-        return waiting::accept(t, 0);
+    } else {
+        changes::edit_suspended(t, k, true);
     }
-    changes::edit_suspended(t, k, true);
     waiting::accept(t, 0)
 }
 
@@ -94,20 +77,16 @@ pub fn resume(t: &mut [u8], i: u8) -> Answer
     requires { Serves t.old }
     ensures { Does t.old t.new result (λ s. do_resume s i) }
 {
-    let th = records::thread_at(t, i);
-    if !th.used {
-        return refused::BAD_THREAD;
-    }
+    let th = waiting::in_use(t, i)?;
     if !th.suspended {
-        return refused::BAD_STATE;
+        return Err(Refusal::BadState);
     }
     let k = i as usize;
-    let w = th.wait;
-    if records::is_waiting(w) {
+    if records::is_waiting(th.wait) {
         changes::edit_suspended(t, k, false);
-        return waiting::accept(t, 0);
+    } else {
+        changes::restart(t, k);
     }
-    changes::restart(t, k);
     waiting::accept(t, 0)
 }
 
@@ -116,12 +95,8 @@ pub fn delay(t: &mut [u8], n: u32) -> Answer
     requires { Serves t.old }
     ensures { Does t.old t.new result (λ s. do_delay s n) }
 {
-    if refusals::bad_ticks(n) {
-        return refused::BAD_TICKS;
-    }
-    if waiting::may_not_wait(t) {
-        return refused::BAD_OPERATION;
-    }
+    refusals::good_ticks(n)?;
+    waiting::may_wait(t)?;
     waiting::block(t, Wait::Delay { counter: n }, 0)
 }
 
@@ -131,18 +106,14 @@ pub fn cancel(t: &mut [u8], i: u8) -> Answer
     ensures { Does t.old t.new result (λ s. do_cancel s i) }
 {
     let th = records::thread_at(t, i);
-    let w = th.wait;
-    waiting::break_off(t, i, records::is_delaying(w))
+    waiting::break_off(t, i, records::is_delaying(th.wait))
 }
 
 // Does a thread that is given that priority go to another line?
 fn changes_line(th: Thread, priority: u8) -> bool
     ensures { result ≡ (is_ready th && not (eqb th.priority priority)) }
 {
-    if !lines::is_ready(th) {
-        return false;
-    }
-    th.priority != priority
+    lines::is_ready(th) && th.priority != priority
 }
 
 // Refused in the order −2, −1, −5.
@@ -150,22 +121,17 @@ pub fn set_priority(t: &mut [u8], i: u8, priority: u8) -> Answer
     requires { Serves t.old }
     ensures { Does t.old t.new result (λ s. do_set_priority s i priority) }
 {
-    if priority > TOP_PRIORITY {
-        return refused::BAD_PRIORITY;
-    }
-    let th = records::thread_at(t, i);
-    if !th.used {
-        return refused::BAD_THREAD;
-    }
+    refusals::good_priority(priority)?;
+    let th = waiting::in_use(t, i)?;
     if i == 0 {
-        return refused::BAD_OPERATION;
+        return Err(Refusal::BadOperation);
     }
     let k = i as usize;
     if changes_line(th, priority) {
         changes::move_priority(t, k, priority);
-        return waiting::accept(t, 0);
+    } else {
+        changes::edit_priority(t, k, priority);
     }
-    changes::edit_priority(t, k, priority);
     waiting::accept(t, 0)
 }
 
@@ -174,14 +140,10 @@ pub fn set_turn(t: &mut [u8], i: u8, turn: u32) -> Answer
     requires { Serves t.old }
     ensures { Does t.old t.new result (λ s. do_set_turn s i turn) }
 {
-    if refusals::bad_ticks(turn) {
-        return refused::BAD_TICKS;
-    }
-    if waiting::no_thread(t, i) {
-        return refused::BAD_THREAD;
-    }
+    refusals::good_ticks(turn)?;
+    waiting::in_use(t, i)?;
     if i == 0 {
-        return refused::BAD_OPERATION;
+        return Err(Refusal::BadOperation);
     }
     changes::edit_turn(t, i as usize, turn);
     waiting::accept(t, 0)

@@ -1,7 +1,7 @@
 -- THE KERNEL ITSELF. The demands, said of the contract that `speltmallet_door` is proved to meet: its clauses are those of
 -- crates/kernel/src/lib.rt, and what C calls has the same, letter by letter, in crates/kernel_c/src/lib.rt. A contract is a relation between
 -- what is lent and what is given back, and whatever it allows meets the demands.
-use Rattle.std.specs.Prelude.{◌≡◌, List, [], ◌∷◌, ◌++◌, ℕ, ◌≤◌, ℤ, length}
+use Rattle.std.specs.Prelude.{◌≡◌, List, [], ◌∷◌, ◌++◌, ℕ, ◌≤◌, ℤ, length, Ok}
 use seplogic.Ra.Ura.{Ura}
 use base.Logic.{SProp, ent, emp}
 use prog.Memory.{Memory}
@@ -17,7 +17,7 @@ use Rattle.rules.specs.Answers.{area_length}
 use Rattle.rules.specs.Sound.{SoundTable}
 use Rattle.rules.specs.Table.{encode, decode}
 use Rattle.rules.specs.Door.{Doored, Handed, answered, door}
-use Rattle.rules.specs.declared.Answer.TheVariants.{Done}
+use Rattle.rules.specs.declared.Reply.TheVariants.{Done}
 use Rattle.rules.specs.declared.Request.TheVariants as Ask
 use Rattle.request.specs.Written.{written}
 use Rattle.fairness.specs.Run.{Event}
@@ -110,7 +110,7 @@ pub record Kernel : Type 2 where
   pub former : (x y : Lent) (d e : Doored) (i p n : ℕ) → x.request.now ≡ written (Ask.SetTurn i n) → y.request.now ≡ written (Ask.SetPriority i p)
       → SoundTable printer x.table.now → length x.area.now ≡ area_length → length y.area.now ≡ area_length
       → Allowed x d → y.table.now ≡ d.table → Allowed y e
-      → (former_set (decode printer x.table.now) i p n).answer ≡ Done 0 → e ≡ answered (encode (former_set (decode printer x.table.now) i p n).state) (Done 0)
+      → (former_set (decode printer x.table.now) i p n).answer ≡ Ok (Done 0) → e ≡ answered (encode (former_set (decode printer x.table.now) i p n).state) (Ok (Done 0))
   -- demand 3
   pub third : (t : List ℕ) (cs : List Call) → Runs t cs → Fair printer t (events t cs)
   -- and the share over whole rounds

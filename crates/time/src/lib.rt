@@ -8,31 +8,31 @@ ghost use Rattle.layout.specs.Boards.{HasThread};
 ghost use Rattle.layout.specs.Held.{Whole, Becomes, on_threads};
 ghost use Rattle.waiting.specs.Does.{Serves, Does};
 
-use rules::{Answer, MOST_LOCK, Outcome, Wait, refused};
+use rules::{Answer, Outcome, Refusal, Reply, Wait};
 
 // THE LOCK
 
+// "Lock −5 at 255": there its byte counts no further.
 pub fn lock(t: &mut [u8]) -> Answer
     requires { Serves t.old }
     ensures { Does t.old t.new result do_lock }
 {
-    let n = records::lock(t);
-    if n >= MOST_LOCK {
-        return refused::BAD_OPERATION;
-    }
-    records::set_lock(t, n + 1);
+    let n = records::lock(t)
+        .checked_add(1)
+        .ok_or(Refusal::BadOperation)?;
+    records::set_lock(t, n);
     waiting::accept(t, 0)
 }
 
+// "Unlock −5 at 0."
 pub fn unlock(t: &mut [u8]) -> Answer
     requires { Serves t.old }
     ensures { Does t.old t.new result do_unlock }
 {
-    let n = records::lock(t);
-    if n == 0 {
-        return refused::BAD_OPERATION;
-    }
-    records::set_lock(t, n - 1);
+    let n = records::lock(t)
+        .checked_sub(1)
+        .ok_or(Refusal::BadOperation)?;
+    records::set_lock(t, n);
     waiting::accept(t, 0)
 }
 
@@ -43,14 +43,12 @@ fn charge(t: &mut [u8], r: usize)
     requires { HasThread t.old r × Whole t.old }
     ensures { Becomes t.old t.new (on_threads (charge r)) }
 {
-    let th = records::load_thread(t, r);
-    let w = th.wait;
-    let c = records::counter_of(w);
+    let c = records::counter_of(records::load_thread(t, r).wait);
     if c <= 1 {
         lines::to_tail(t, r);
-        return;
+    } else {
+        records::set_counter(t, r, c - 1);
     }
-    records::set_counter(t, r, c - 1);
 }
 
 // With lock 0 the running thread is charged.
@@ -70,11 +68,8 @@ fn timed_out(w: Wait) -> Outcome
     ensures { result ≡ timed_out w }
 {
     match w {
-        Wait::Nothing { counter: _ } => Outcome::Failed,
-        Wait::Delay { counter: _ } => Outcome::Done,
-        Wait::Receive { counter: _ } => Outcome::Failed,
-        Wait::Send { to: _, counter: _ } => Outcome::Failed,
-        Wait::Semaphore { on: _, counter: _ } => Outcome::Failed,
+        Wait::Delay { .. } => Outcome::Done,
+        _ => Outcome::Failed,
     }
 }
 
@@ -83,20 +78,15 @@ fn count_down(t: &mut [u8], i: usize)
     requires { HasThread t.old i × Whole t.old }
     ensures { Becomes t.old t.new (on_threads (count_down i)) }
 {
-    let th = records::load_thread(t, i);
-    let w = th.wait;
+    let w = records::load_thread(t, i).wait;
     if !records::is_waiting(w) {
         return;
     }
-    let c = records::counter_of(w);
-    if c == 0 {
-        return;
+    match records::counter_of(w) {
+        0 => {}
+        1 => waiting::end_wait(t, i, timed_out(w), 0),
+        c => records::set_counter(t, i, c - 1),
     }
-    if c == 1 {
-        waiting::end_wait(t, i, timed_out(w), 0);
-        return;
-    }
-    records::set_counter(t, i, c - 1);
 }
 
 // Every wait counts down, by thread number.
@@ -125,21 +115,17 @@ pub fn tick(t: &mut [u8]) -> Answer
 fn outcome_answer(outcome: Outcome, parcel: u32) -> Answer
     ensures { result ≡ outcome_answer outcome parcel }
 {
-    match outcome {
-        Outcome::Done => Answer::Done { value: parcel },
-        Outcome::NoneYet => Answer::NoneYet,
-        Outcome::Failed => Answer::Failed,
-    }
+    Ok(match outcome {
+        Outcome::Done => Reply::Done { value: parcel },
+        Outcome::NoneYet => Reply::NoneYet,
+        Outcome::Failed => Reply::Failed,
+    })
 }
 
 pub fn outcome(t: &[u8], i: u8) -> Answer
     requires { Serves t.now }
     ensures { Does t.now t.now result (λ s. do_outcome s i) }
 {
-    let th = records::thread_at(t, i);
-    if !th.used {
-        return refused::BAD_THREAD;
-    }
-    let o = th.outcome;
-    outcome_answer(o, th.parcel)
+    let th = waiting::in_use(t, i)?;
+    outcome_answer(th.outcome, th.parcel)
 }

@@ -7,7 +7,7 @@ use native.Mathlib.Omega.{arith}
 use Rattle.rules.specs.State.{State}
 use Rattle.rules.specs.Sound.{Sound, SoundTable}
 use Rattle.rules.specs.Waiting.{Step}
-use Rattle.rules.specs.declared.Answer.{Answer}
+use Rattle.rules.specs.Answers.{Answer}
 use Rattle.laws.proofs.Top.{sound_running}
 use Rattle.layout.specs.Held.{board, said, Holds, Whole, Becomes}
 use Rattle.layout.proofs.Boards.{sized}

@@ -1,5 +1,6 @@
 -- Laws of what operations do, and of waits.
 pub mod Doing
 pub mod Moving
+pub mod Tests
 pub mod There
 pub mod Waits

@@ -4,18 +4,19 @@
 // rule, and that the answer is the rule's too.
 #![tactic(auto)]
 
-ghost use Rattle.std.specs.Prelude.{true, ◌≡◌, ℕ, pred};
+ghost use Rattle.std.specs.Prelude.{if◌then◌else◌, true, ◌≡◌, ℕ, Ok, Err};
 ghost use Rattle.rules.specs.State.{State, at, waiting, with_wait, with_outcome};
 ghost use Rattle.rules.specs.Lines.{Line, move};
 ghost use Rattle.rules.specs.Waiting.{accept, end_wait, serve, block, may_not_wait, wait_counter, must_wait};
 ghost use Rattle.rules.specs.Threads.{no_thread, break_off};
 ghost use Rattle.rules.specs.declared.Wait.{Wait};
+ghost use Rattle.rules.specs.declared.Refusal.TheVariants.{BadThread, BadOperation};
 ghost use Rattle.layout.specs.Boards.{HasThread};
 ghost use Rattle.layout.specs.Held.{Long, said, Whole, Becomes, on_threads};
 ghost use Rattle.marks.specs.Numbers.{line_number};
 ghost use Rattle.waiting.specs.Does.{Serves, Does};
 
-use rules::{Answer, MOST_TICKS, Outcome, Wait, refused};
+use rules::{Answer, MOST_TICKS, Outcome, Refusal, Reply, Thread, Wait};
 
 // THE END OF A STEP
 
@@ -25,7 +26,7 @@ pub fn accept(t: &mut [u8], value: u32) -> Answer
     ensures { Does t.old t.new result (λ s. accept s value) }
 {
     ready::settle(t);
-    Answer::Done { value }
+    Ok(Reply::Done { value })
 }
 
 // A WAIT ENDS
@@ -44,6 +45,7 @@ fn change_wait(t: &mut [u8], i: usize, w: Wait, outcome: Outcome, parcel: u32) -
 }
 
 // The wait of thread `i` ends: it leaves its line, and enters its ready line if it is not suspended.
+#[tactic(auto, unfolding(rules::specs::Waiting::end_wait))]
 pub fn end_wait(t: &mut [u8], i: usize, outcome: Outcome, parcel: u32)
     requires { HasThread t.old i × Whole t.old }
     ensures { Becomes t.old t.new (on_threads (end_wait i outcome parcel)) }
@@ -74,25 +76,28 @@ pub fn serve(t: &mut [u8], n: u8, line: u16, outcome: Outcome)
 
 // A WAIT IS BROKEN OFF
 
-// "Thread number above 15, or free."
-pub fn no_thread(t: &[u8], i: u8) -> bool
+// Thread `i`, if it is in use. "Thread number above 15, or free" is refused by −1.
+pub fn in_use(t: &[u8], i: u8) -> Result<Thread, Refusal>
     requires { Long t.now }
-    ensures { (s : State) → said t.now ≡ s → result ≡ no_thread s i }
+    ensures { (s : State) → said t.now ≡ s → result ≡ (if no_thread s i then Err BadThread else Ok (at s.threads i)) }
 {
     let th = records::thread_at(t, i);
-    !th.used
+    if th.used {
+        Ok(th)
+    } else {
+        Err(Refusal::BadThread)
+    }
 }
 
 // The wait of thread `i` ends with −5, where `named` says whether it is of the kind that the operation names. Refused in the order −1, −4.
+// It stays a flag: the theorem `waiting_break_off` says that the promise determines the answer, and no promise on a closure does.
 pub fn break_off(t: &mut [u8], i: u8, named: bool) -> Answer
     requires { Serves t.old }
     ensures { Does t.old t.new result (λ s. break_off (λ w. named) s i) }
 {
-    if no_thread(t, i) {
-        return refused::BAD_THREAD;
-    }
+    in_use(t, i)?;
     if !named {
-        return refused::BAD_STATE;
+        return Err(Refusal::BadState);
     }
     end_wait(t, i as usize, Outcome::Failed, 0);
     accept(t, 0)
@@ -100,25 +105,19 @@ pub fn break_off(t: &mut [u8], i: u8, named: bool) -> Answer
 
 // A WAIT BEGINS
 
-// "The caller is Init or the lock is on."
-pub fn may_not_wait(t: &[u8]) -> bool
+// "The caller is Init or the lock is on": refused by −5.
+pub fn may_wait(t: &[u8]) -> Result<(), Refusal>
     requires { Long t.now }
-    ensures { (s : State) → said t.now ≡ s → result ≡ may_not_wait s }
+    ensures { (s : State) → said t.now ≡ s → result ≡ (if may_not_wait s then Err BadOperation else Ok tt) }
 {
-    if records::running(t) == 0 {
-        return true;
+    if records::running(t) == 0 || records::lock(t) > 0 {
+        return Err(Refusal::BadOperation);
     }
-    records::lock(t) > 0
+    Ok(())
 }
 
-// How many stand ahead of a place in a line; nobody where there is no line, and so no place.
-fn ahead_of(place: u8) -> u32
-    ensures { result ≡ pred place }
-{
-    if place == 0 { 0 } else { (place - 1) as u32 }
-}
-
-// The caller waits: it leaves its ready line and joins the tail of its wait's line. The answer says how many are ahead of it there.
+// The caller waits: it leaves its ready line and joins the tail of its wait's line. The answer says how many are ahead of it there: one
+// less than its place, and nobody where there is no line, and so no place.
 pub fn block(t: &mut [u8], w: Wait, parcel: u32) -> Answer
     requires { (waiting w ≡ true) × Serves t.old }
     ensures { Does t.old t.new result (λ s. block s w parcel) }
@@ -126,8 +125,10 @@ pub fn block(t: &mut [u8], w: Wait, parcel: u32) -> Answer
     let i = records::running(t);
     let place = change_wait(t, i, w, Outcome::NoneYet, parcel);
     ready::settle(t);
-    let ahead = ahead_of(place);
-    Answer::Blocked { ahead }
+    let ahead = place.saturating_sub(1);
+    Ok(Reply::Blocked {
+        ahead: u32::from(ahead),
+    })
 }
 
 // What a wait number leaves on the counter: 0 where the wait has no end.
@@ -143,10 +144,8 @@ pub fn must_wait(t: &mut [u8], n: u32, w: Wait, parcel: u32) -> Answer
     ensures { (kind : ℕ → Wait) → w ≡ kind (wait_counter n) → Does t.old t.new result (λ s. must_wait s n kind parcel) }
 {
     if n == 0 {
-        return refused::BAD_OPERATION;
+        return Err(Refusal::BadOperation);
     }
-    if may_not_wait(t) {
-        return refused::BAD_OPERATION;
-    }
+    may_wait(t)?;
     block(t, w, parcel)
 }

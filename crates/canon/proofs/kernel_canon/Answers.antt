@@ -1,5 +1,4 @@
--- `canon::kernel_canon` meets its contract: what is above the lowest 281474976710656 of the first eight bytes is all but six of them. Assumes
--- nothing.
+-- `canon::kernel_canon` meets its contract: the first eight bytes without the lowest six are all but six of them. Assumes nothing.
 use mathlib.Core.Path.{ap, ◌∙◌}
 use mathlib.Core.Logic.Iff
 use native.Mathlib.Omega.{arith}

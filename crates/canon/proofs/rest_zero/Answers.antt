@@ -1,4 +1,4 @@
--- `canon::rest_zero` meets its contract: what is above the lowest 65536 of the first eight bytes is all but two of them. Assumes nothing.
+-- `canon::rest_zero` meets its contract: the first eight bytes without the lowest two are all but two of them. Assumes nothing.
 use mathlib.Core.Logic.Iff
 use native.Mathlib.Omega.{arith}
 use Rattle.laws.proofs.Split.{pass_together}

@@ -1,13 +1,13 @@
--- `canon::sem_canon` meets its contract: each test that fails decides, and else the last one does. Assumes nothing.
+-- `canon::sem_canon` meets its contract: its test is the definition's. Assumes nothing.
 use native.Mathlib.Nat.{add-zero}
 use borrow.Author.Tests.{le-leb, lt-leb}
 use Rattle.layout.specs.Canon.{sem_canon}
 use Rattle.canon.proofs.sem_canon.Goals as goal
 
-pub returns-then-t-base-gt1 : goal.returns-then-t-base-gt1
+pub returns-then-t-base-le1 : goal.returns-then-t-base-le1
 unfolding sem_canon
-returns-then-t-base-gt1 c = rw (← c.semaphore_from-base.ensures.0, lt-leb _ _ (rw add-zero at c.if-t-base-gt1.true))
+returns-then-t-base-le1 c = rw (← c.semaphore_from-base.ensures.0, le-leb _ _ (rw add-zero at c.if-t-base-le1.true)) c.rest_zero.ensures
 
-pub returns : goal.returns
+pub returns-else-t-base-le1 : goal.returns-else-t-base-le1
 unfolding sem_canon
-returns c = rw (← c.semaphore_from-base.ensures.0, le-leb _ _ (rw add-zero at c.if-t-base-gt1.false)) c.rest_zero.ensures
+returns-else-t-base-le1 c = rw (← c.semaphore_from-base.ensures.0, add-zero, lt-leb _ _ (rw add-zero at c.if-t-base-le1.false))

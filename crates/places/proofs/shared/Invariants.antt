@@ -2,13 +2,10 @@
 use mathlib.Core.Bool.{false}
 use mathlib.Core.Path.{◌≡◌}
 use mathlib.Core.Logic.{◌↔◌}
-use Prim.Native.Nat.{ℕ, ◌+◌, ◌-◌, ◌≤◌, ◌<◌}
+use Prim.Native.Nat.{ℕ, ◌<◌}
+use lib.ListN.{length}
 use Rattle.places.specs.Rings.{entry_at}
 use Rattle.places.proofs.shared.Given as goal
 
-abbrev pub invariant-loop-k : goal.invariant-loop-k
-invariant-loop-k l =
-    (l.from ≤ l.k) × (l.k ≤ l.from + l.n) × ((l.found ≡ 0) ↔ ((m : ℕ) → m < l.k → l.from ≤ m → entry_at l.lines l.places l.line l.place m ≡ false))
-
-abbrev pub decreases-loop-k : goal.decreases-loop-k
-decreases-loop-k l = l.from + l.n - l.k
+abbrev pub invariant-loop-l : goal.invariant-loop-l
+invariant-loop-l l = (l.found ≡ false) ↔ ((k : ℕ) → k < length l.yielded → entry_at l.lines l.places l.line l.place k ≡ false)

@@ -1,19 +1,11 @@
 -- `records::load_thread` meets its contract: each field is what the record says, and the record is the thread's. Assumes
 -- nothing.
 use mathlib.Core.Path.{sym, ◌∙◌}
-use Rattle.records.proofs.Rows.{thread_made}
 use Rattle.layout.proofs.Boards.{thread_told}
+use Rattle.records.proofs.Rows.{thread_read}
 use Rattle.records.proofs.load_thread.Goals as goal
 
 pub returns : goal.returns
 returns c =
-    λ s e.
-    let i = c.args.i in
-    sym (thread_made _ _ _ _ _ _ _ _
-    c.word_at-counter.ensures
-    c.wait_of-wait.ensures
-    c.outcome_of-outcome.ensures
-    c.word_at-turn.ensures
-    c.word_at-value.ensures
-    c.word_at-parcel.ensures)
-    ∙ thread_told c.requires.1 e i c.requires.0
+    λ s e. rw (c.wait_of.ensures, c.word_at.ensures, c.from.ensures, c.word_at-2.ensures, c.word_at-3.ensures, c.word_at-4.ensures)
+    (sym (thread_read _ _) ∙ thread_told c.requires.1 e c.args.i c.requires.0)

@@ -1,16 +1,6 @@
 -- `records::set_priority` meets its contract: the one byte written makes the row of the changed thread. Assumes nothing.
-use mathlib.Core.Path.{refl}
-use mathlib.Core.List.{[], ◌∷◌}
-use native.Mathlib.Omega.{arith}
-use Rattle.rules.specs.State.{with_priority}
-use Rattle.rules.specs.Table.{thread_row}
-use Rattle.layout.specs.Bytes.{put, puts}
-use Rattle.layout.proofs.Held.{thread_changed}
-use Rattle.layout.proofs.Flat.{Within}
+use Rattle.records.proofs.Written.{priority_written}
 use Rattle.records.proofs.set_priority.Goals as goal
 
 pub returns : goal.returns
-unfolding puts thread_row Within
-returns c =
-    let a = c.args in
-    thread_changed c.requires.1 a.i (with_priority a.priority) (put 1 a.priority ∷ []) c.requires.0 (omega arith) (λ x. refl) refl
+returns c = priority_written c.args.i c.requires c.args.priority

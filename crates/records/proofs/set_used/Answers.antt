@@ -1,17 +1,6 @@
 -- `records::set_used` meets its contract: the one byte written makes the row of the changed thread. Assumes nothing.
-use mathlib.Core.Path.{refl}
-use mathlib.Core.List.{[], ◌∷◌}
-use native.Mathlib.Omega.{arith}
-use Rattle.rules.specs.Table.{thread_row}
-use Rattle.layout.specs.Bytes.{put, puts}
-use Rattle.layout.proofs.Held.{thread_changed}
-use Rattle.layout.proofs.Flat.{Within}
-use Rattle.records.specs.Fields.{with_used}
+use Rattle.records.proofs.Written.{used_written}
 use Rattle.records.proofs.set_used.Goals as goal
 
 pub returns : goal.returns
-unfolding puts thread_row Within
-returns c =
-    let a = c.args in
-    let byte = c.flag in
-    thread_changed c.requires.1 a.i (with_used a.used) (put 0 byte.result ∷ []) c.requires.0 (omega arith) (λ x. rw byte.ensures) refl
+returns c = used_written c.args.i c.requires c.args.used _ c.from.ensures

@@ -12,12 +12,6 @@ use Rattle.records.proofs.store_thread.Goals as goal
 pub set_used-requires : goal.set_used-requires
 set_used-requires c = (omega (arith, c.requires.0, c.set_place.auto, c.set_mail.auto, c.set_outcome.auto, c.set_turn.auto), whole_laid c.set_turn.ensures.whole)
 
-pub set_wait-requires : goal.set_wait-requires
-set_wait-requires c = (omega (arith, c.requires.0, c.set_place.auto, c.set_mail.auto, c.set_outcome.auto, c.set_turn.auto, c.set_used.auto, c.set_priority.auto, c.set_suspended.auto), c.set_suspended.ensures.laid)
-
-pub shape_of-t : goal.shape_of-t
-shape_of-t c = omega (arith, c.set_place.auto, c.set_mail.auto, c.set_outcome.auto, c.set_turn.auto, c.set_used.auto, c.set_priority.auto, c.set_suspended.auto, c.set_wait.auto)
-
 pub returns : goal.returns
 returns c =
     let a = c.args in

@@ -6,4 +6,4 @@ use Rattle.semaphores.proofs.abort.Goals as goal
 
 pub returns : goal.returns
 unfolding do_abort break_off
-returns c = does_as c.break_off.ensures (λ s h. rw (← c.thread_at-th.ensures s h.says, ← c.is_pending.ensures))
+returns c = does_as c.break_off.ensures (λ s h. rw (← c.thread_at-w.ensures s h.says, ← c.is_pending.ensures))

@@ -1,17 +1,17 @@
 -- `threads::delay` meets its contract: each way out is a branch of the rule. Assumes nothing.
 use Rattle.rules.specs.Threads.{do_delay}
-use Rattle.waiting.proofs.Doing.{does_nothing, does_as}
+use Rattle.waiting.proofs.Doing.{does_as}
+use Rattle.waiting.proofs.Tests.{passed, refuses}
 use Rattle.threads.proofs.delay.Goals as goal
 
-pub returns-then-bad_ticks : goal.returns-then-bad_ticks
+pub returns-in_err-good_ticks : goal.returns-in_err-good_ticks
 unfolding do_delay
-returns-then-bad_ticks c = does_nothing c.requires.whole (λ s e. rw (← c.bad_ticks.ensures, c.if-bad_ticks.true))
+returns-in_err-good_ticks c = refuses _ c.requires.whole c.from_residual.ensures (λ s e. c.in_err-good_ticks.ensures) (λ s e p. rw p)
 
-pub returns-then-may_not_wait : goal.returns-then-may_not_wait
+pub returns-in_err-may_wait : goal.returns-in_err-may_wait
 unfolding do_delay
-returns-then-may_not_wait c = does_nothing c.requires.whole (λ s e. rw (← c.bad_ticks.ensures, c.if-bad_ticks.false, ← c.may_not_wait.ensures s e, c.if-may_not_wait.true))
+returns-in_err-may_wait c = refuses _ c.requires.whole c.from_residual-in_err-may_wait.ensures c.in_err-may_wait.ensures (λ s e p. rw ((passed _ _ c.in_ok-good_ticks.ensures).0, p))
 
 pub returns : goal.returns
 unfolding do_delay
-returns c =
-    does_as c.block.ensures (λ s h. rw (← c.bad_ticks.ensures, c.if-bad_ticks.false, ← c.may_not_wait.ensures s h.says, c.if-may_not_wait.false))
+returns c = does_as c.block.ensures (λ s h. rw ((passed _ _ c.in_ok-good_ticks.ensures).0, (passed _ _ (c.in_ok-may_wait.ensures s h.says)).0))

@@ -1,22 +1,23 @@
 -- `threads::delete` meets its contract: each way out is a branch of the rule. Assumes nothing.
 use Rattle.rules.specs.Threads.{do_delete}
-use Rattle.waiting.proofs.Doing.{does_nothing, then_does}
+use Rattle.waiting.proofs.Doing.{then_does}
+use Rattle.waiting.proofs.Tests.{passed, refuses}
 use Rattle.waiting.proofs.There.{there}
 use Rattle.threads.proofs.delete.Goals as goal
 
-pub returns-then-no_thread : goal.returns-then-no_thread
+pub returns-in_err-in_use : goal.returns-in_err-in_use
 unfolding do_delete
-returns-then-no_thread c = does_nothing c.requires.whole (λ s e. rw (← c.no_thread.ensures s e, c.if-no_thread.true))
+returns-in_err-in_use c = refuses _ c.requires.whole c.from_residual.ensures c.in_err-in_use.ensures (λ s e p. rw p)
 
-pub returns-then-is_bound : goal.returns-then-is_bound
+pub returns-in_err-not_bound : goal.returns-in_err-not_bound
 unfolding do_delete
-returns-then-is_bound c = does_nothing c.requires.whole (λ s e. rw (← c.no_thread.ensures s e, c.if-no_thread.false, ← c.is_bound.ensures s e, c.if-is_bound.true))
+returns-in_err-not_bound c =
+    refuses _ c.requires.whole c.from_residual-in_err-not_bound.ensures c.in_err-not_bound.ensures (λ s e p. rw ((passed _ _ (c.in_ok-in_use.ensures s e)).0, p))
 
 pub delete_thread-requires : goal.delete_thread-requires
-delete_thread-requires c =
-    (there c.requires.whole.long c.args.i c.no_thread.ensures c.if-no_thread.false, c.requires.whole)
+delete_thread-requires c = (there c.requires.whole.long c.args.i c.in_ok-in_use.ensures, c.requires.whole)
 
 pub returns : goal.returns
 unfolding do_delete
 returns c =
-    then_does c.delete_thread.ensures c.accept.ensures (λ s h. rw (← c.no_thread.ensures s h.says, c.if-no_thread.false, ← c.is_bound.ensures s h.says, c.if-is_bound.false))
+    then_does c.delete_thread.ensures c.accept.ensures (λ s h. rw ((passed _ _ (c.in_ok-in_use.ensures s h.says)).0, (passed _ _ (c.in_ok-not_bound.ensures s h.says)).0))

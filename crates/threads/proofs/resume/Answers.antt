@@ -6,35 +6,33 @@ use Rattle.rules.specs.State.{with_suspended}
 use Rattle.rules.specs.Lines.{line}
 use Rattle.laws.proofs.Lines.{line_suspended}
 use Rattle.waiting.proofs.Doing.{does_nothing, then_does}
-use Rattle.waiting.proofs.There.{read_there}
+use Rattle.waiting.proofs.Tests.{passed, refuses}
+use Rattle.waiting.proofs.There.{there}
+use Rattle.threads.proofs.resume.Goals.{then-is_waiting, else-is_waiting}
 use Rattle.threads.proofs.resume.Goals as goal
+
+pub returns-in_err-th : goal.returns-in_err-th
+unfolding do_resume
+returns-in_err-th c = refuses _ c.requires.whole c.from_residual.ensures c.in_err-th.ensures (λ s e p. rw p)
 
 pub returns-then-not-th : goal.returns-then-not-th
 unfolding do_resume
-returns-then-not-th c = does_nothing c.requires.whole (λ s e. rw (← c.thread_at-th.ensures s e, c.if-not-th.true))
-
-pub returns-then-not-th-2 : goal.returns-then-not-th-2
-unfolding do_resume
-returns-then-not-th-2 c = does_nothing c.requires.whole (λ s e. rw (← c.thread_at-th.ensures s e, c.if-not-th.false, c.if-not-th-2.true))
+returns-then-not-th c = does_nothing c.requires.whole (λ s e. let u = passed _ _ (c.in_ok-th.ensures s e) in rw (u.0, ← u.1, c.if-not-th.true))
 
 pub edit_suspended-requires : goal.edit_suspended-requires
-edit_suspended-requires c =
-    let th = c.thread_at-th in (
-      read_there c.requires.whole.long c.args.i th.ensures c.if-not-th.false,
-      c.requires.whole,
-      λ s e. subst (λ x. line (with_suspended false x) ≡ line x) (th.ensures s e) (line_suspended false th.result (sym c.is_waiting.ensures ∙ c.if-is_waiting.true)),
-    )
-
-pub returns-then-is_waiting : goal.returns-then-is_waiting
-unfolding do_resume
-returns-then-is_waiting c =
-    then_does c.edit_suspended.ensures c.accept.ensures (λ s h. rw (← c.thread_at-th.ensures s h.says, c.if-not-th.false, c.if-not-th-2.false, ← c.is_waiting.ensures, c.if-is_waiting.true))
+edit_suspended-requires c = (
+  there c.requires.whole.long c.args.i c.in_ok-th.ensures,
+  c.requires.whole,
+  λ s e. subst (λ x. line (with_suspended false x) ≡ line x) (passed _ _ (c.in_ok-th.ensures s e)).1 (line_suspended false c.in_ok-th.th (sym c.is_waiting.ensures ∙ c.if-is_waiting.true)),
+)
 
 pub restart-requires : goal.restart-requires
-restart-requires c =
-    (read_there c.requires.whole.long c.args.i c.thread_at-th.ensures c.if-not-th.false, c.requires.whole)
+restart-requires c = (there c.requires.whole.long c.args.i c.in_ok-th.ensures, c.requires.whole)
 
 pub returns : goal.returns
 unfolding do_resume
 returns c =
-    then_does c.restart.ensures c.accept-2.ensures (λ s h. rw (← c.thread_at-th.ensures s h.says, c.if-not-th.false, c.if-not-th-2.false, ← c.is_waiting.ensures, c.if-is_waiting.false))
+    elim c.if-is_waiting.branch [
+      | then-is_waiting w ↦ then_does w.edit_suspended.ensures (rw w.t-is at c.accept.ensures) (λ s h. let u = passed _ _ (c.in_ok-th.ensures s h.says) in rw (u.0, ← u.1, c.if-not-th.false, ← c.is_waiting.ensures, w.if-is_waiting.true))
+      | else-is_waiting w ↦ then_does w.restart.ensures (rw w.t-is at c.accept.ensures) (λ s h. let u = passed _ _ (c.in_ok-th.ensures s h.says) in rw (u.0, ← u.1, c.if-not-th.false, ← c.is_waiting.ensures, w.if-is_waiting.false))
+    ]

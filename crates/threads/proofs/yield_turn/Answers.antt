@@ -1,5 +1,5 @@
 -- `threads::yield_turn` meets its contract: each way out is a branch of the rule. Assumes nothing.
-use mathlib.Core.Path.{refl, sym, ap}
+use mathlib.Core.Path.{sym, ap}
 use native.Mathlib.Omega.{arith}
 use borrow.Author.Tests.{lt-ltb, le-ltb}
 use Rattle.rules.specs.Threads.{do_yield}
@@ -11,9 +11,6 @@ use Rattle.threads.proofs.yield_turn.Goals as goal
 pub returns-then-lock-gt0 : goal.returns-then-lock-gt0
 unfolding do_yield
 returns-then-lock-gt0 c = does_as c.accept.ensures (λ s h. rw (lt-ltb 0 s.lock (omega (arith, c.lock.ensures s h.says))))
-
-pub to_tail-requires : goal.to_tail-requires
-to_tail-requires c = (omega (arith, c.running-i.ensures _ refl), c.requires.whole)
 
 pub returns : goal.returns
 unfolding do_yield

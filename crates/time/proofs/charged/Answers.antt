@@ -1,5 +1,4 @@
 -- `time::charged` meets its contract: the lock and the running thread are the ones that the table says. Assumes nothing.
-use mathlib.Core.Path.{refl}
 use native.Mathlib.Omega.{arith}
 use borrow.Author.Tests.{eq-eqb, ne_eqb}
 use Rattle.rules.specs.Time.{charged}
@@ -9,9 +8,6 @@ use Rattle.time.proofs.charged.Goals as goal
 pub returns-then-lock-gt0 : goal.returns-then-lock-gt0
 unfolding charged
 returns-then-lock-gt0 c = becomes_same c.requires.whole (λ s h. rw (ne_eqb s.lock 0 (omega (arith, c.lock.ensures s h.says))))
-
-pub charge-requires : goal.charge-requires
-charge-requires c = (omega (arith, c.running-r.ensures _ refl), c.requires.whole)
 
 pub returns : goal.returns
 unfolding charged

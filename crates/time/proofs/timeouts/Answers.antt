@@ -7,28 +7,13 @@ use Rattle.rules.specs.Time.{timeouts}
 use Rattle.layout.proofs.Held.{◌⨾◌, becomes_as, becomes_same, holds_sized}
 use Rattle.time.proofs.timeouts.Goals as goal
 
-pub threads-threads-requires : goal.threads-threads-requires
-threads-threads-requires c = c.requires.long
-
 pub loop-i-init : goal.loop-i-init
 unfolding timeouts
 loop-i-init c = (omega arith, refl, becomes_same c.requires (λ s h. refl))
 
-pub count_down-requires : goal.count_down-requires
-count_down-requires c = (omega (arith, c.threads-threads.ensures, c.loop-i.invariant.1), c.loop-i.invariant.2.whole)
-
-pub overflow_step-i : goal.overflow_step-i
-overflow_step-i c = omega arith
-
-pub loop-i-smaller : goal.loop-i-smaller
-loop-i-smaller c = omega arith
-
 pub loop-i-preserved : goal.loop-i-preserved
 unfolding timeouts
 loop-i-preserved c = (omega arith, omega (arith, c.count_down.auto, c.loop-i.invariant.1), becomes_as (c.loop-i.invariant.2 ⨾ c.count_down.ensures) (λ s h. rw add-one))
-
-pub shape_of-t : goal.shape_of-t
-shape_of-t c = c.loop-i.invariant.1
 
 pub returns : goal.returns
 returns c = becomes_as c.loop-i.invariant.2 (λ s h. ap (λ n. with_threads (timeouts n s.threads) s) (omega (arith, c.threads-threads.ensures, (holds_sized h).threads)))

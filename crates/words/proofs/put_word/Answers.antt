@@ -1,17 +1,15 @@
--- `words::put_word` meets its contract: the four stores are `sets`, written out. Assumes nothing.
-use native.Mathlib.Numerals.{add-one, add-two, add-three}
+-- `words::put_word` meets its contract: the four bytes, put in their place, are the four stores of `sets`. Assumes nothing.
+use mathlib.Core.Path.{◌≡◌, sym, ◌∙◌}
+use Prim.Native.Nat.{◌/◌, ◌%◌}
 use native.Mathlib.Omega.{arith}
-use lib.ListN.{length-set}
+use lib.Seq.{sets-eq}
+use Rattle.std.proofs.lemmas.Slice.{put_mid-paste}
+use Rattle.rules.specs.Table.{word_bytes}
 use Rattle.words.proofs.put_word.Goals as goal
 
-pub bounds-bytes-at-2 : goal.bounds-bytes-at-2
-bounds-bytes-at-2 c = simp length-set (omega arith)
-
-pub bounds-bytes-at-3 : goal.bounds-bytes-at-3
-bounds-bytes-at-3 c = simp length-set (omega arith)
-
-pub bounds-bytes-at-4 : goal.bounds-bytes-at-4
-bounds-bytes-at-4 c = simp length-set (omega arith)
-
 pub returns : goal.returns
-returns c = simp (add-one, add-two, add-three)
+returns c =
+    let w = c.args.word in
+    let top : w / 16777216 % 256 ≡ w / 16777216 = omega (arith, c.ranges.word) in
+    let written : c.copy_from_slice.new.self ≡ word_bytes w = rw top at (c.copy_from_slice.ensures.after ∙ c.to_le_bytes.ensures) in
+    put_mid-paste _ _ _ _ _ 4 written (omega arith) (omega arith) ∙ sym (sets-eq (word_bytes w) _ _ c.requires)

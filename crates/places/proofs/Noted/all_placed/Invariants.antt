@@ -1,0 +1,10 @@
+-- `places::Noted::all_placed` meets its contract: what is gathered is 0 exactly when all threads so far are well placed. Assumes nothing.
+use mathlib.Core.Bool.{false}
+use mathlib.Core.Path.{◌≡◌}
+use mathlib.Core.Logic.{◌↔◌}
+use Prim.Native.Nat.{ℕ, ◌<◌}
+use Rattle.places.specs.Rings.{Near}
+use Rattle.places.proofs.Noted.all_placed.Given as goal
+
+abbrev pub invariant-loop-j : goal.invariant-loop-j
+invariant-loop-j l = (l.bad ≡ false) ↔ ((m : ℕ) → m < l.j → Near l.n l.self-inside.lines l.self-inside.places m)

@@ -1,7 +1,0 @@
--- `semaphores::sem_at` meets its contract: a number out of range reads as a free record. Assumes nothing.
-use mathlib.Core.Path.{sym}
-use Rattle.layout.proofs.Boards.{no_sem_lem}
-use Rattle.semaphores.proofs.sem_at.Goals as goal
-
-pub returns-then-j-semaphores : goal.returns-then-j-semaphores
-returns-then-j-semaphores c = λ s e. sym (no_sem_lem c.requires e c.args.k c.semaphores.result c.semaphores.ensures c.if-j-semaphores.true)
