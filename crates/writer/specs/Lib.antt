@@ -1,3 +1,3 @@
 -- What the code promises of a line and its record, and of a block.
-pub mod Fields
+pub mod Lines
 pub mod Places

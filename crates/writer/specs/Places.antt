@@ -1,10 +1,9 @@
 -- What the code promises of a block: how far its whole pieces are turned.
-use Rattle.std.specs.Prelude.{Bool, List, ◌≡◌, ℕ, ◌+◌, ◌*◌, ◌≤◌, length, take}
+use Rattle.std.specs.Prelude.{Bool, List, ◌++◌, ◌≡◌, ℕ, ◌+◌, ◌*◌, ◌≤◌, length, take}
 use Rattle.listing.specs.Listing.{cut, input_of, bytes_of}
 use Rattle.listing.specs.Parts.{part_of, is_bad}
-use Rattle.text.specs.Puts.{Puts}
 use Rattle.listing.specs.declared.Way.{Way}
-use Rattle.writer.specs.Fields.{listed_room}
+use Rattle.writer.specs.Lines.{listed_room}
 
 -- the place after the last piece of which something came out
 unfoldable pub place_after : Way → List ℕ → ℕ
@@ -18,12 +17,12 @@ part_room n = 6 * n + listed_room
 abbrev pub refusal_room : ℕ
 refusal_room = 11 + 20 + 1
 
--- the whole pieces of a block are turned: how many are done, the place after them, the place after what is put out of them, and whether the
--- next one is bad
-pub record Block (w : Way) (come out out' : List ℕ) (done at next : ℕ) (bad : Bool) : Type 0 where
+-- the whole pieces of a block are turned: how many are done, the place after them, and whether the next one is bad; what comes out of them is put
+-- behind what stood there
+pub record Block (w : Way) (come out out' : List ℕ) (done at : ℕ) (bad : Bool) : Type 0 where
   pub count : done ≡ length (part_of w come).done
   pub place : at ≡ place_after w come
-  pub puts : Puts out 0 (bytes_of w (part_of w come).done) out' next
+  pub puts : out' ≡ out ++ bytes_of w (part_of w come).done
   pub stop : bad ≡ is_bad (part_of w come).bad
   pub inside : (at ≤ length come) × (done ≤ length come)
-  pub room : next ≤ 6 * length come
+  pub room : length out' ≤ length out + 6 * length come

@@ -1,11 +1,9 @@
 // Which fields an operation uses. It is asked of `request`, so no operation is known here by its number.
-ghost use Rattle.std.specs.Prelude.{◌≡◌, not};
-ghost use Rattle.rules.specs.Requests.{operation_of, request_of, decode_request};
-ghost use Rattle.listing.specs.Line.{refused};
-ghost use Rattle.writer.specs.Fields.{uses_of};
+ghost use Rattle.std.specs.Prelude.{◌≡◌};
+ghost use Rattle.rules.specs.Requests.{operation_of};
+ghost use Rattle.writer.specs.Lines.{uses_of};
 
-use crate::Fields;
-use rules::Decoded;
+use request::Fields;
 
 // Which of its four fields an operation uses.
 #[derive(Clone, Copy)]
@@ -16,30 +14,7 @@ pub struct Uses {
     pub parcel: bool,
 }
 
-// Do these fields ask anything: those that are not zero are those that the operation uses.
-fn asks(fields: Fields) -> bool
-    ensures { result ≡ not (refused (request_of fields.operation fields.object fields.priority fields.number fields.parcel)) }
-{
-    matches!(
-        request::request_of(
-            fields.operation,
-            fields.object,
-            fields.priority,
-            fields.number,
-            fields.parcel
-        ),
-        Decoded::Asked { .. }
-    )
-}
-
-// Does a record ask anything.
-pub fn asks_anything(record: &[u8]) -> bool
-    ensures { result ≡ not (refused (decode_request «record».now)) }
-{
-    matches!(request::decode(record), Decoded::Asked { .. })
-}
-
-// The fields that an operation uses, if there is an operation of that number.
+// The fields that an operation uses, if there is an operation of that number: those that it may be asked with.
 pub fn used_by(operation: u8) -> Option<Uses>
     ensures { result ≡ uses_of (operation_of operation) }
 {
@@ -50,13 +25,15 @@ pub fn used_by(operation: u8) -> Option<Uses>
         number: 0,
         parcel: 0,
     };
-    if !asks(none) {
-        return None;
-    }
+    request::request_of(none)?;
     Some(Uses {
-        object: asks(Fields { object: 1, ..none }),
-        priority: asks(Fields { priority: 1, ..none }),
-        number: asks(Fields { number: 1, ..none }),
-        parcel: asks(Fields { parcel: 1, ..none }),
+        object: request::request_of(Fields { object: 1, ..none }).is_some(),
+        priority: request::request_of(Fields {
+            priority: 1,
+            ..none
+        })
+        .is_some(),
+        number: request::request_of(Fields { number: 1, ..none }).is_some(),
+        parcel: request::request_of(Fields { parcel: 1, ..none }).is_some(),
     })
 }

@@ -1,12 +1,13 @@
 // From a line, without its line feed, to its fields.
-ghost use Rattle.std.specs.Prelude.{◌≡◌, ◌+◌, ◌*◌, ◌-◌, min, length, ◌≤◌, is_some, take_while};
-ghost use Rattle.std.proofs.lemmas.List.Edits.{sets};
+ghost use Rattle.std.specs.Prelude.{◌≡◌, ◌+◌, ◌*◌, ◌-◌, min, length, ◌≤◌, is_some, unwrap_or, [], ◌++◌, take_while};
 ghost use Rattle.rules.specs.Requests.{request_length};
 ghost use Rattle.request.specs.Written.{record_bytes};
 ghost use Rattle.listing.specs.Line.{is_digit, number_from, record_of};
-ghost use Rattle.writer.specs.Fields.{most_long, front_of, told, any_field, FieldRead, rest_of, bytes_read, given, is_given};
+ghost use Rattle.writer.specs.Lines.{most_long, front_of, told, any_field, FieldRead, rest_of, bytes_read};
 
-use crate::{Fields, LINE_MOST, asks};
+use crate::{LINE_MOST, asks};
+use buffer::Buffer;
+use request::Fields;
 
 // A number that a text begins with, the largest of 64 bits in the place of a larger one, and the text after it.
 #[derive(Clone, Copy)]
@@ -102,25 +103,22 @@ fn read_line(line: &[u8]) -> Option<Fields>
     fields_from(u8::try_from(first.number).ok()?, first.rest)
 }
 
-// The record of a line's fields, written from byte `at` on.
-fn put_fields(out: &mut [u8], at: usize, fields: Fields)
-    requires { at + request_length ≤ length out.old }
-    ensures { out.new ≡ sets out.old at (record_bytes fields.operation fields.object fields.priority fields.number fields.parcel) }
+// The record of a line's fields.
+fn put_fields<const N: usize>(out: &mut Buffer<N>, fields: Fields)
+    requires { length out.old + request_length ≤ N }
+    ensures { out.new ≡ out.old ++ record_bytes fields.operation fields.object fields.priority fields.number fields.parcel }
 {
-    out[at] = fields.operation;
-    out[at + 1] = fields.object;
-    out[at + 2] = fields.priority;
-    out[at + 3] = 0;
-    words::put_word(out, at + 4, fields.number);
-    words::put_word(out, at + 8, fields.parcel);
+    out.extend(&[fields.operation, fields.object, fields.priority, 0]);
+    out.extend(&fields.number.to_le_bytes());
+    out.extend(&fields.parcel.to_le_bytes());
 }
 
-// The record of a line, without its line feed, written from byte `at` on; nothing of a bad line.
-pub fn write_line(line: &[u8], out: &mut [u8], at: usize) -> Option<()>
-    requires { at + request_length ≤ length out.old }
-    ensures taken { is_some result ≡ is_given (record_of line.now) }
-    ensures out { out.new ≡ sets out.old at (given (record_of line.now)) }
+// The record of a line, without its line feed; nothing of a bad line.
+pub fn write_line<const N: usize>(line: &[u8], out: &mut Buffer<N>) -> Option<()>
+    requires { length out.old + request_length ≤ N }
+    ensures taken { is_some result ≡ is_some (record_of line.now) }
+    ensures puts { out.new ≡ out.old ++ unwrap_or (record_of line.now) [] }
 {
-    put_fields(out, at, read_line(line)?);
+    put_fields(out, read_line(line)?);
     Some(())
 }

@@ -1,22 +1,30 @@
--- `writer::blocks::list_block` meets its contract: at each turn the records before `at` are listed. Assumes nothing.
-use mathlib.Core.Path.{refl, sym, ◌∙◌}
+-- `writer::blocks::list_block` meets its contract: at each turn the records before `at` are listed, and those from there on are to come. Assumes nothing.
+use mathlib.Core.Path.{sym, ◌∙◌}
 use native.Mathlib.Omega.{arith}
 use Rattle.listing.specs.declared.Way.TheVariants.{ToListing}
 use Rattle.writer.proofs.Block.{none_yet}
-use Rattle.writer.proofs.Pieces.{record_taken, record_bad, records_end}
+use Rattle.writer.proofs.Pieces.{comes, no_more, record_taken, record_bad, records_end}
 use Rattle.writer.proofs.blocks.list_block.Goals as goal
 
-pub loop-at-init : goal.loop-at-init
-loop-at-init c = (refl, none_yet ToListing c.args.records.now c.args.out.now)
+pub loop-record-init : goal.loop-record-init
+loop-record-init g c =
+    let all = c.chunks_exact-record-items.ensures in
+    rw c.into_iter-record-iterator.ensures.into_iter_gives
+    (omega (arith, all.size), tt, record { size = all.size; rest = all.rest }, none_yet ToListing c.args.records.now c.args.out.now)
 
-pub returns-in_default : goal.returns-in_default
-returns-in_default c = record_bad c.loop-at.invariant.1 (omega (arith, c.loop-at.invariant.1.inside, c.loop-at-test.true)) c.in_default.ensures.puts (omega arith) refl (sym c.in_default.ensures.asks)
+pub returns-then-is_none : goal.returns-then-is_none
+returns-then-is_none g c =
+    let step = c.in-Some.ensures.steps in
+    let here = comes c.loop-record.invariant.2 {next = c.next.new.self} step.0 step.1.0 step.1.1 in
+    let listed = (rw here.is at c.list_record.ensures) in
+    record_bad c.loop-record.invariant.3 here.inside listed.puts listed.upper_bound (sym c.if-is_none.ensures ∙ listed.asks)
 
-pub loop-at-preserved : goal.loop-at-preserved
-loop-at-preserved c = (
-  c.list_record.auto.out ∙ c.loop-at.invariant.0,
-  record_taken c.loop-at.invariant.1 (omega (arith, c.loop-at.invariant.1.inside, c.loop-at-test.true)) c.in-Some.ensures.puts c.in-Some.ensures.upper_bound (sym c.in-Some.ensures.asks),
-)
+pub loop-record-preserved : goal.loop-record-preserved
+loop-record-preserved g c =
+    let step = c.in-Some.ensures.steps in
+    let here = comes c.loop-record.invariant.2 {next = c.next.new.self} step.0 step.1.0 step.1.1 in
+    let listed = (rw here.is at c.list_record.ensures) in
+    (omega (arith, here.more.size), tt, here.more, record_taken c.loop-record.invariant.3 here.inside listed.puts listed.upper_bound (sym c.if-is_none.ensures ∙ listed.asks))
 
 pub returns : goal.returns
-returns c = records_end c.loop-at.invariant.1 (omega (arith, c.loop-at.invariant.1.inside, c.loop-at-test.false))
+returns g c = records_end c.loop-record.invariant.3 (no_more c.loop-record.invariant.2 c.in-None.ensures.steps.1.0)

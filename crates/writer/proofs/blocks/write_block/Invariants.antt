@@ -1,5 +1,4 @@
 -- `writer::blocks::write_block` meets its contract: at each turn the lines before `at` are written. Assumes nothing.
-use mathlib.Core.Path.{◌≡◌}
 use Prim.Native.Nat.{◌-◌}
 use lib.ListN.{length}
 use Rattle.listing.specs.declared.Way.TheVariants.{ToRecords}
@@ -7,7 +6,7 @@ use Rattle.writer.proofs.Block.{Sofar}
 use Rattle.writer.proofs.blocks.write_block.Given as goal
 
 abbrev pub invariant-loop-n : goal.invariant-loop-n
-invariant-loop-n l = (length l.out ≡ length l.initial.out) × Sofar ToRecords l.text l.initial.out l.done l.at l.next l.out
+invariant-loop-n g l = Sofar ToRecords l.text l.initial.out l.done l.at l.out
 
 abbrev pub decreases-loop-n : goal.decreases-loop-n
-decreases-loop-n l = length l.text - l.at
+decreases-loop-n g l = length l.text - l.at

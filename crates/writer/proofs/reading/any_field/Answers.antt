@@ -1,7 +1,7 @@
 -- `writer::reading::any_field` meets its contract: each way out has passed the tests that pick its case. Assumes nothing.
 use mathlib.Core.Path.{ap, ◌∙◌}
 use Rattle.listing.specs.Line.{number_from}
-use Rattle.writer.specs.Fields.{told}
+use Rattle.writer.specs.Lines.{told}
 use Rattle.writer.proofs.Lines.{unused, no_space, spaced}
 use Rattle.writer.proofs.reading.any_field.Goals as goal
 

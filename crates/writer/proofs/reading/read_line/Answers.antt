@@ -2,7 +2,7 @@
 use mathlib.Core.Path.{sym, ap, ◌∙◌}
 use Prim.Native.Nat.{◌<◌}
 use Rattle.std.specs.Result.{OkIff}
-use Rattle.writer.specs.Fields.{rest_of}
+use Rattle.writer.specs.Lines.{rest_of}
 use Rattle.listing.proofs.Trips.{too_long_lem}
 use Rattle.writer.proofs.Lines.{none_ok, some_ok, not_a_number, large_operation, line_read}
 use Rattle.writer.proofs.reading.read_line.Goals as goal
