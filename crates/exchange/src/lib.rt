@@ -3,13 +3,11 @@
 // as it speaks.
 #![tactic(auto)]
 
-ghost use Rattle.std.specs.Prelude.{if◌then◌else◌, ◌≤◌, ◌<◌, ◌^◌, ◌≡◌, length, take};
-ghost use Rattle.std.proofs.Math.Option.{none, some};
-ghost use Rattle.text.specs.Puts.{Puts};
+ghost use Rattle.std.specs.Prelude.{if◌then◌else◌, ◌≤◌, ◌<◌, ◌^◌, ◌≡◌, ◌||◌, ltb, length, Some, None};
 ghost use Rattle.listing.specs.Listing.{refusal_text};
-ghost use Rattle.writer.specs.Places.{part_room, refusal_room};
-ghost use Rattle.exchange.specs.Going.{block_length, Ended};
+ghost use Rattle.exchange.specs.Going.{Ended};
 
+use buffer::Buffer;
 use listing::Way;
 use streams::Streams;
 
@@ -19,87 +17,71 @@ pub const BLOCK: usize = 1024 * rules::REQUEST;
 // The room for what comes out of a block: a record of 12 bytes for each two, and a longest line.
 pub const OUT: usize = 6 * BLOCK + 48;
 
-// What the run comes to: how many bytes have come, how many lines or records are done, how many bytes are held at the front of the block, and the
-// place after the refusal.
+// What the run comes to: how many bytes have come, and the number of the line or record behind those that are done.
 #[derive(Clone, Copy)]
 pub struct Done {
     pub bytes: u64,
     pub number: u64,
-    pub held: usize,
-    pub next: usize,
+}
+
+// The number of what is bad where no more is read: of what has stopped the text, or else of what is held.
+fn bad(number: u64, stopped: bool, block: &Buffer<BLOCK>) -> Option<u64>
+    ensures { result ≡ (if stopped || ltb 0 (length block.now) then Some number else None) }
+{
+    (stopped | (0 < block.len())).then_some(number)
 }
 
 // No more is read: the refusal stands ready, if there is one, and is said unless something failed.
-fn close(
-    stdio: Streams,
-    way: Way,
-    bytes: u64,
-    number: u64,
-    held: usize,
-    bad: bool,
-    said: bool,
-    out: &mut [u8],
-) -> Done
-    requires { refusal_room ≤ length out.old }
-    ensures counts { (result.bytes ≡ bytes) × (result.number ≡ number) × (result.held ≡ held) }
-    ensures line { Puts out.old 0 (refusal_text way (if bad then some number else none)) out.new result.next }
-    ensures room { result.next ≤ refusal_room }
+fn close(stdio: Streams, way: Way, bad: Option<u64>, said: bool, out: &mut Buffer<OUT>)
+    ensures { out.new ≡ refusal_text way bad }
 {
-    let next = writer::refuse(way, number, bad, out);
+    out.clear();
+    writer::refuse(way, bad, out);
     if said {
-        streams::say_front(stdio, out, next);
-    }
-    Done {
-        bytes,
-        number,
-        held,
-        next,
+        stdio.say(out.as_slice());
     }
 }
 
-// The whole input is turned, part by part, where its first line or record has number `first`. A failure is said on standard error and ends it.
+// The whole input is turned, part by part, where its first line or record has number `first`. A failure is said on standard error and ends it. What
+// is held at the end stays in the block, and the refusal in `out`.
 fn run_from(
     stdio: Streams,
-    name: &[u8],
     way: Way,
     first: u64,
-    block: &mut [u8],
-    out: &mut [u8],
+    block: &mut Buffer<BLOCK>,
+    out: &mut Buffer<OUT>,
 ) -> Done
-    requires first_bound { first < 2 ^ 61 }
-    requires block_len { length block.old ≡ block_length }
-    requires out_len { length out.old ≡ part_room block_length }
-    ensures { Ended way first result.bytes result.number (take result.held block.new) (take result.next out.new) }
+    requires { first < 2 ^ 61 }
+    ensures { Ended way first result.bytes result.number block.new out.new }
 {
+    block.clear();
     let mut bytes: u64 = 0;
     let mut number = first;
-    let mut held: usize = 0;
-    let mut reads = streams::READS;
-    while 0 < reads {
-        let come = streams::read_behind(stdio, name, block, held);
-        let n = come.n;
-        if n == held {
-            return close(stdio, way, bytes, number, held, 0 < held, !come.failed, out);
+    for _ in 0..streams::READS {
+        let come = stdio.read_behind(block);
+        let said = come.is_ok();
+        let n = come.unwrap_or(0);
+        if n == 0 {
+            close(stdio, way, bad(number, false, block), said, out);
+            return Done { bytes, number };
         }
-        bytes += (n - held) as u64;
-        let turned = writer::turn(way, number, block, n, out);
+        bytes += n as u64;
+        out.clear();
+        let turned = writer::turn(way, number, block, out);
         number = turned.number;
-        held = turned.held;
-        let written = streams::write_front(stdio, name, out, turned.next);
+        let written = stdio.write(out.as_slice()).is_ok();
         if turned.stopped | !written {
-            let bad = turned.stopped | (0 < held);
-            return close(stdio, way, bytes, number, held, bad, written, out);
+            close(stdio, way, bad(number, turned.stopped, block), written, out);
+            return Done { bytes, number };
         }
-        reads -= 1;
     }
-    close(stdio, way, bytes, number, held, 0 < held, false, out)
+    close(stdio, way, bad(number, false, block), false, out);
+    Done { bytes, number }
 }
 
-// The whole input is turned for the program of that name.
-pub fn run(stdio: Streams, name: &[u8], way: Way, block: &mut [u8], out: &mut [u8]) -> Done
-    requires block_len { length block.old ≡ block_length }
-    requires out_len { length out.old ≡ part_room block_length }
-    ensures { Ended way 0 result.bytes result.number (take result.held block.new) (take result.next out.new) }
+// The whole input is turned.
+pub fn run(stdio: Streams, way: Way, block: &mut Buffer<BLOCK>, out: &mut Buffer<OUT>) -> Done
+    ensures { Ended way 0 result.bytes result.number block.new out.new }
 {
-    run_from(stdio, name, way, 0, block, out)
+    run_from(stdio, way, 0, block, out)
 }

@@ -1,14 +1,15 @@
 // The program `list`: request records on standard input, their listing on standard output.
 #![tactic(auto)]
 
+use buffer::Buffer;
 use listing::Way;
+use streams::Streams;
 
 fn main(rt: HostRuntime) {
-    let mut block = [0u8; exchange::BLOCK];
-    let mut out = [0u8; exchange::OUT];
+    let mut block = Buffer::new();
+    let mut out = Buffer::new();
     exchange::run(
-        streams::of(&rt),
-        b"list",
+        Streams::of(&rt, b"list"),
         Way::ToListing,
         &mut block,
         &mut out,

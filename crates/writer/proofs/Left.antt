@@ -1,9 +1,9 @@
 -- A block that is turned: where no piece of it is bad, all of its pieces are done, so what stands behind them is what is left over, and so the text
 -- stops there exactly if a piece is bad or what is left over is too long. Assumes nothing.
+use Rattle.std.specs.Prelude.{Option, None, Some}
 use mathlib.Core.Path.{◌≡◌, refl, sym, ap, ◌∙◌}
 use mathlib.Core.Bool.{Bool, true, false, ◌||◌}
 use mathlib.Core.List.{List, []}
-use mathlib.Core.Option.{Option, none, some}
 use Prim.Native.Nat.{ℕ, ◌-◌}
 use native.Mathlib.Omega.{arith}
 use lib.ListN.{length, length-drop, drop}
@@ -17,16 +17,16 @@ use Rattle.listing.proofs.Each.{each_all}
 use Rattle.listing.proofs.Cuts.{cut_whole}
 use Rattle.listing.proofs.InParts.{holds_come, holds_all}
 
-not_bad : (b : Option ℕ) → is_bad b ≡ false → b ≡ none
-not_bad none e = refl
-not_bad (some k) e = absurd (clash refl e)
+not_bad : (b : Option ℕ) → is_bad b ≡ false → b ≡ None
+not_bad None e = refl
+not_bad (Some k) e = absurd (clash refl e)
 
-module _ {w : Way} {come out out' : List ℕ} {done at next : ℕ} {bad : Bool} (b : Block w come out out' done at next bad) where
+module _ {w : Way} {come out out' : List ℕ} {done at : ℕ} {bad : Bool} (b : Block w come out out' done at bad) where
   all_done : bad ≡ false → at ≡ length (input_of w (cut w come).pieces)
   unfolding part_of place_after
   all_done e =
       let xs = (cut w come).pieces in
-      let taken : (each (rule w) 0 xs []).bad ≡ none = not_bad (each (rule w) 0 xs []).bad (sym b.stop ∙ e) in
+      let taken : (each (rule w) 0 xs []).bad ≡ None = not_bad (each (rule w) 0 xs []).bad (sym b.stop ∙ e) in
       b.place
       ∙ ap (λ (l : List (List ℕ)). length (input_of w l)) (take_all (length (each (rule w) 0 xs []).done) xs (omega (arith, each_all (rule w) 0 xs taken)))
 
@@ -45,15 +45,8 @@ module _ {w : Way} {come out out' : List ℕ} {done at next : ℕ} {bad : Bool} 
           ap (λ (k : ℕ). too_long w k) size ∙ ap (λ (x : Bool). x || too_long w (length (cut w come).rest)) (sym e ∙ b.stop)
 
   -- what the code asks says that the text stops here, or that it does not
-  module _ (n : ℕ) (size : length come ≡ n) where
-    asked : bad || too_long w (n - at) ≡ stops w come
-    asked = ap (λ (k : ℕ). bad || too_long w (k - at)) (sym size) ∙ stops_known
+  pub stopped_here : bad || too_long w (length come - at) ≡ true → come ≡ holds w come
+  stopped_here e = sym (holds_come w come (sym stops_known ∙ e))
 
-    pub stopped_here : bad || too_long w (n - at) ≡ true → (true ≡ stops w come) × (come ≡ holds w come)
-    stopped_here e = let s = sym asked ∙ e in (sym s, sym (holds_come w come s))
-
-    pub went_on : bad || too_long w (n - at) ≡ false → (false ≡ stops w come) × (drop at come ≡ holds w come) × (n - at ≡ length (holds w come))
-    went_on e =
-        let s = sym asked ∙ e in
-        let left : drop at come ≡ holds w come = left_over_lem (or_false bad (too_long w (n - at)) e).0 ∙ sym (holds_all w come s) in
-        (sym s, left, ap (λ (k : ℕ). k - at) (sym size) ∙ sym (length-drop at come) ∙ ap length left)
+  pub went_on : bad || too_long w (length come - at) ≡ false → drop at come ≡ holds w come
+  went_on e = left_over_lem (or_false bad (too_long w (length come - at)) e).0 ∙ sym (holds_all w come (sym stops_known ∙ e))

@@ -1,6 +1,5 @@
--- Laws of places in a line and in a block.
-pub mod Places
-pub mod Taken
+-- Laws of a line and its fields, and of places in a block.
+pub mod Lines
 pub mod Block
 pub mod Pieces
 pub mod Left

@@ -1,24 +1,27 @@
 -- The pieces of a block by their places: a line up to its line feed, and a record of 12 bytes. Assumes nothing.
-use mathlib.Core.Path.{◌≡◌, refl, sym, ap, subst, ◌∙◌}
-use mathlib.Core.Bool.{Bool, true, false}
+use Rattle.std.specs.Prelude.{Option, Some, None, cond, position, is_some, unwrap_or}
+use Rattle.std.specs.Slice.Iter.{chunks_exact_rest, chunks_exact_size}
+use Rattle.std.specs.declared.slice.ChunksExact.{ChunksExact}
+use Rattle.std.proofs.lemmas.Option.{none-some, same_Some}
+use Rattle.std.specs.List.{position_or_len}
+use mathlib.Core.Path.{◌≡◌, refl, sym, ap, ◌∙◌}
+use mathlib.Core.Bool.{true, false}
 use mathlib.Core.List.{List, [], ◌∷◌, ◌++◌, flatten, append-nil}
-use mathlib.Core.Option.{Option, none, some, none-ne-some}
 use Prim.Native.Nat.{ℕ, zero, suc, ◌+◌, ◌-◌, ◌/◌, ◌≤◌, ◌<◌}
-use native.Mathlib.Decide.{dec_lt}
 use native.Mathlib.Omega.{arith}
-use lib.Dec.{eqb}
-use lib.ListN.{length, length-append, length-take, length-drop, get_or, take, drop, drop_of_length-le}
-use lib.Seq.{drop-cons, drop-drop, sets, length-take-le}
-use borrow.Author.Tests.{eqb-true}
+use lib.Dec.{eqb, ltb}
+use lib.ListN.{length, length-append, length-take, length-drop, take, drop}
+use lib.Seq.{take_all, take_at, drop_at, drop-drop, length-take-le}
+use borrow.Author.Tests.{eqb-true, ltb-true, ltb-false}
 use Rattle.rules.specs.Basic.{find}
 use Rattle.rules.specs.Requests.{request_length}
 use Rattle.rules.specs.Trace.{records, whole_records}
 use Rattle.parts.proofs.Whole.{none_whole}
 use Rattle.laws.proofs.Split.{is, isnt, test, clash}
-use Rattle.text.specs.Puts.{Puts}
 use Rattle.listing.specs.Line.{line_of, record_of, number_from}
 use Rattle.listing.specs.Listing.{Cut, line_feed, text_of, lines_of}
-use Rattle.writer.specs.Places.{line_end, given, is_given, fed, listed_room, Block}
+use Rattle.writer.specs.Lines.{fed, listed_room}
+use Rattle.writer.specs.Places.{Block}
 use Rattle.listing.specs.declared.Way.TheVariants.{ToRecords, ToListing}
 use Rattle.listing.proofs.Numbers.{clean}
 use Rattle.listing.proofs.Texts.{first_line}
@@ -27,22 +30,34 @@ use Rattle.writer.proofs.Block.{Next, Sofar, one_more, stops, ends}
 
 -- THE END OF A LINE
 
-pub line_goes_on : (text : List ℕ) (at : ℕ) → at < length text → eqb (get_or text at 0) line_feed ≡ false → line_end text at ≡ line_end text (at + 1)
-unfolding line_end
-line_goes_on text at h e =
-    let next : at + 1 ≡ suc at = omega arith in
-    rw (drop-cons text at 0 h, e, next) (omega arith)
-
-pub line_ends : (text : List ℕ) (at : ℕ) → at ≤ length text → (at < length text → eqb (get_or text at 0) line_feed ≡ true) → at ≡ line_end text at
-unfolding line_end
-line_ends text at h e =
-    elim (dec_lt at (length text)) [
-      | yes l ↦ rw (drop-cons text at 0 l, e l) (omega arith)
-      | no l ↦ rw (drop_of_length-le text {i = at} (omega arith)) (omega arith)
-    ]
-
 abbrev feed : List ℕ → ℕ
 feed t = find (λ c. eqb c line_feed) t
+
+feed_place : (t : List ℕ) → position_or_len (λ c. eqb c line_feed) t ≡ feed t
+feed_place [] = refl
+feed_place (c ∷ t) =
+    elim (test (eqb c line_feed)) [
+      | is e ↦ rw e refl
+      | isnt e ↦ rw e (omega (arith, feed_place t))
+    ]
+
+-- the place of the first line feed from a place on; the text's length where there is none
+unfoldable pub line_end : List ℕ → ℕ → ℕ
+line_end text at = at + feed (drop at text)
+
+found_by : (k l : ℕ) → (n : ℕ) → Some n ≡ cond (ltb k l) (Some k) None → (n ≡ k) × (k < l)
+found_by k l n e =
+    elim (test (ltb k l)) [
+      | is h ↦ (same_Some _ _ (rw h at e), ltb-true k l h)
+      | isnt h ↦ absurd (none-some _ (sym (rw h at e)))
+    ]
+
+none_by : (k l : ℕ) → None ≡ cond (ltb k l) (Some k) None → l ≤ k
+none_by k l e =
+    elim (test (ltb k l)) [
+      | is h ↦ absurd (none-some _ (rw h at e))
+      | isnt h ↦ omega (arith, ltb-false k l h)
+    ]
 
 -- a text up to its first line feed, if it has one
 feed_splits : (t : List ℕ) → feed t < length t → (clean (take (feed t) t) ≡ true) × (t ≡ take (feed t) t ++ line_feed ∷ drop (suc (feed t)) t)
@@ -108,53 +123,76 @@ next_line text at h l =
 
 -- A LINE IN ITS TURN
 
-line_long : (l r : List ℕ) → record_of l ≡ some r → 1 ≤ length l
+line_long : (l r : List ℕ) → record_of l ≡ Some r → 1 ≤ length l
 unfolding record_of number_from
-line_long [] r e = absurd (none-ne-some r e)
+line_long [] r e = absurd (none-some r e)
 line_long (c ∷ l) r e = omega arith
 
-given_some : (m : Option (List ℕ)) → is_given m ≡ true → m ≡ some (given m)
-given_some none e = absurd (clash e refl)
-given_some (some x) e = refl
+given_some : (m : Option (List ℕ)) → true ≡ is_some m → m ≡ Some (unwrap_or m [])
+given_some None e = absurd (clash (sym e) refl)
+given_some (Some x) e = refl
 
-given_none : (m : Option (List ℕ)) → is_given m ≡ false → m ≡ none
-given_none none e = refl
-given_none (some x) e = absurd (clash refl e)
+given_none : (m : Option (List ℕ)) → false ≡ is_some m → m ≡ None
+given_none None e = refl
+given_none (Some x) e = absurd (clash refl (sym e))
 
-module _ {text before : List ℕ} {n at next : ℕ} {after : List ℕ} (s : Sofar ToRecords text before n at next after) (end : ℕ) (is : end ≡ line_end text at) (l : end < length text)
-    {b : Bool} (g : b ≡ is_given (record_of (part text at end))) {later : List ℕ} (q : later ≡ sets after next (given (record_of (part text at end)))) where
+same : {l m : List ℕ} → l ≡ m ++ [] → l ≡ m
+same {l} {m} e = e ∙ append-nil m
+
+module _ {text before : List ℕ} {n at : ℕ} {after : List ℕ} (s : Sofar ToRecords text before n at after) (end : ℕ) (is : end ≡ line_end text at) (l : end < length text)
+    {later : List ℕ} (q : later ≡ after ++ unwrap_or (record_of (part text at end)) []) where
   abbrev found : Option (List ℕ)
   found = record_of (part text at end)
 
   there_now : Next ToRecords text at (part text at end) (end + 1)
   there_now = rw is (next_line text at s.inside (omega arith))
 
-  pub line_taken : b ≡ true → Sofar ToRecords text before (n + 1) (end + 1) (next + request_length) later
+  pub line_taken : true ≡ is_some (record_of (part text at end)) → Sofar ToRecords text before (n + 1) (end + 1) later
   unfolding flatten
   line_taken e =
-      let m = given_some found (sym g ∙ e) in
-      let long = record_long (part text at end) (given found) m in
-      let size = line_long (part text at end) (given found) m in
-      let t = there_now in
-      let puts : Puts after next (given found ++ []) later (next + request_length) = rw (append-nil (given found)) (record { bytes = q; place = ap (λ (k : ℕ). next + k) (sym long) }) in
-      one_more s (given found) t m puts (omega (arith, line_far)) (omega (arith, s.room, size, line_far))
+      let m = given_some found e in
+      let x = unwrap_or found [] in
+      let long = record_long (part text at end) x m in
+      let size = line_long (part text at end) x m in
+      let puts : later ≡ after ++ (x ++ []) = rw (append-nil x) q in
+      one_more s x there_now m puts (omega (arith, line_far)) (omega (arith, s.room, size, line_far, long, ap length q, length-append after x))
     where
       line_far : at + length (part text at end) ≡ end
       line_far = rw is (there text at s.inside (omega arith)).long
 
-  pub line_bad : b ≡ false → Block ToRecords text before later n at next true
+  pub line_bad : false ≡ is_some (record_of (part text at end)) → Block ToRecords text before later n at true
   line_bad e =
-      let m = given_none found (sym g ∙ e) in
-      rw (q ∙ ap (λ (x : Option (List ℕ)). sets after next (given x)) m) (stops s there_now m)
+      let m = given_none found e in
+      rw (q ∙ ap (λ (x : Option (List ℕ)). after ++ unwrap_or x []) m ∙ append-nil after) (stops s there_now m)
 
-pub lines_end : {text before : List ℕ} {n at next : ℕ} {after : List ℕ} → Sofar ToRecords text before n at next after → length text ≤ line_end text at
-    → Block ToRecords text before after n at next false
+-- what `position` answers of the rest of the text says whether a line is there
+abbrev pub rest_at : List ℕ → ℕ → List ℕ
+rest_at text at = take (length text - at) (drop at text)
+
+rest_all : (text : List ℕ) (at : ℕ) → rest_at text at ≡ drop at text
+rest_all text at = take_all (length text - at) (drop at text) (omega (arith, length-drop at text))
+
+pub found_end : (text : List ℕ) (at n : ℕ) → Some n ≡ position (λ c. eqb c line_feed) (rest_at text at) → at ≤ length text → (at + n ≡ line_end text at) × (at + n < length text)
+unfolding line_end
+found_end text at n e h =
+    let there : Some n ≡ position (λ c. eqb c line_feed) (drop at text) = e ∙ ap (position (λ c. eqb c line_feed)) (rest_all text at) in
+    let f = found_by (position_or_len (λ c. eqb c line_feed) (drop at text)) (length (drop at text)) n there in
+    (omega (arith, f.0, feed_place (drop at text)), omega (arith, f.0, f.1, length-drop at text))
+
+pub no_end : (text : List ℕ) (at : ℕ) → None ≡ position (λ c. eqb c line_feed) (rest_at text at) → at ≤ length text → length text ≤ line_end text at
+unfolding line_end
+no_end text at e h =
+    let there : None ≡ position (λ c. eqb c line_feed) (drop at text) = e ∙ ap (position (λ c. eqb c line_feed)) (rest_all text at) in
+    omega (arith, none_by (position_or_len (λ c. eqb c line_feed) (drop at text)) (length (drop at text)) there, feed_place (drop at text), length-drop at text)
+
+pub lines_end : {text before : List ℕ} {n at : ℕ} {after : List ℕ} → Sofar ToRecords text before n at after → length text ≤ line_end text at
+    → Block ToRecords text before after n at false
 unfolding line_end
 lines_end {text} {at = at} s l = ends s (no_feed (drop at text) (omega (arith, length-drop at text, s.inside)))
 
 -- A RECORD IN ITS TURN
 
-abbrev record_at : List ℕ → ℕ → List ℕ
+abbrev pub record_at : List ℕ → ℕ → List ℕ
 record_at input at = take request_length (drop at input)
 
 -- where a record is whole, it is the first
@@ -176,37 +214,48 @@ next_record input at h = record {
     go zero e = absurd (omega (arith, length-drop at input))
     go (suc k) e = first_whole k (drop at input) e ∙ ap (λ (l : List ℕ). record_at input at ∷ whole_records l) (drop-drop request_length at input)
 
-module _ {input before : List ℕ} {n at next : ℕ} {after : List ℕ} (s : Sofar ToListing input before n at next after) (h : at + request_length ≤ length input)
-    {later : List ℕ} {end : ℕ} (p : Puts after next (fed (line_of (part input at (at + request_length)))) later end) (room : end ≤ next + listed_room) where
-  abbrev piece : List ℕ
-  piece = part input at (at + request_length)
+-- an iterator over the records has those from a place on still to give
+pub record Coming (input : List ℕ) (at : ℕ) (it : ChunksExact ℕ) : Type 0 where
+  pub size : chunks_exact_size it ≡ request_length
+  pub rest : chunks_exact_rest it ≡ drop at input
 
-  there_too : Next ToListing input at piece (at + request_length)
-  there_too =
-      let twelve : at + request_length - at ≡ request_length = omega arith in
-      subst (λ (k : ℕ). Next ToListing input at (take k (drop at input)) (at + request_length)) (sym twelve) (next_record input at h)
+-- it gives a record
+pub record Comes (input : List ℕ) (at : ℕ) (x : List ℕ) (it : ChunksExact ℕ) : Type 0 where
+  pub is : x ≡ record_at input at
+  pub inside : at + request_length ≤ length input
+  pub more : Coming input (at + request_length) it
 
-  -- a line has a line feed at least
-  fed_some : (m : Option (List ℕ)) → Puts after next (fed m) later end → next < end → (l : List ℕ) × (m ≡ some l)
-  fed_some none q e = absurd (omega (arith, q.place))
-  fed_some (some l) q e = (l, refl)
+module _ {input : List ℕ} {at : ℕ} {it : ChunksExact ℕ} (h : Coming input at it) where
+  pub comes : {x : List ℕ} {next : ChunksExact ℕ} → chunks_exact_size next ≡ chunks_exact_size it → chunks_exact_rest it ≡ x ++ chunks_exact_rest next → length x ≡ chunks_exact_size it
+      → Comes input at x next
+  comes {x} {next} s r l =
+      let parts : drop at input ≡ x ++ chunks_exact_rest next = sym h.rest ∙ r in
+      let long : length x ≡ request_length = l ∙ h.size in
+      record {
+        is = sym (ap (take request_length) parts ∙ take_at x (chunks_exact_rest next) request_length long);
+        inside = omega (arith, ap length parts, length-append x (chunks_exact_rest next), long, length-drop at input);
+        more = record {
+          size = s ∙ h.size;
+          rest = sym (drop_at x (chunks_exact_rest next) request_length long) ∙ ap (drop request_length) (sym parts) ∙ drop-drop request_length at input;
+        };
+      }
 
-  fed_none : (m : Option (List ℕ)) → Puts after next (fed m) later end → end ≡ next → (m ≡ none) × (later ≡ after)
-  fed_none none q e = (refl, q.bytes)
-  fed_none (some l) q e = absurd (omega (arith, q.place, length-append l (line_feed ∷ [])))
+  pub no_more : length (chunks_exact_rest it) < chunks_exact_size it → length input < at + request_length
+  no_more l = omega (arith, l, h.size, ap length h.rest, length-drop at input)
 
-  pub record_taken : (end ≡ next → ⊥) → Sofar ToListing input before (n + 1) (at + request_length) end later
+module _ {input before : List ℕ} {n at : ℕ} {after : List ℕ} (s : Sofar ToListing input before n at after) (h : at + request_length ≤ length input)
+    {later : List ℕ} (p : later ≡ after ++ fed (line_of (record_at input at))) (room : length later ≤ length after + listed_room) where
+  pub record_taken : true ≡ is_some (line_of (record_at input at)) → Sofar ToListing input before (n + 1) (at + request_length) later
   unfolding text_of
   record_taken e =
-      let m = fed_some (line_of piece) p (omega (arith, p.place)) in
-      let puts : Puts after next (fed (some m.0)) later end = subst (λ (x : Option (List ℕ)). Puts after next (fed x) later end) m.1 p in
-      one_more s m.0 there_too m.1 puts (omega arith) (omega (arith, s.room))
+      let m = given_some (line_of (record_at input at)) e in
+      one_more s (unwrap_or (line_of (record_at input at)) []) (next_record input at h) m (p ∙ ap (λ (x : Option (List ℕ)). after ++ fed x) m) (omega arith) (omega (arith, s.room))
 
-  pub record_bad : end ≡ next → Block ToListing input before later n at next true
+  pub record_bad : false ≡ is_some (line_of (record_at input at)) → Block ToListing input before later n at true
   record_bad e =
-      let m = fed_none (line_of piece) p e in
-      rw m.1 (stops s there_too m.0)
+      let m = given_none (line_of (record_at input at)) e in
+      rw (p ∙ ap (λ (x : Option (List ℕ)). after ++ fed x) m ∙ append-nil after) (stops s (next_record input at h) m)
 
-pub records_end : {input before : List ℕ} {n at next : ℕ} {after : List ℕ} → Sofar ToListing input before n at next after → length input < at + request_length
-    → Block ToListing input before after n at next false
+pub records_end : {input before : List ℕ} {n at : ℕ} {after : List ℕ} → Sofar ToListing input before n at after → length input < at + request_length
+    → Block ToListing input before after n at false
 records_end {input} {at = at} s l = ends s (none_whole (drop at input) (omega (arith, length-drop at input, s.inside)))

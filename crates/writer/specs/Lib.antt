@@ -1,2 +1,3 @@
--- What the code promises by places in a line and in a block.
+-- What the code promises of a line and its record, and of a block.
+pub mod Lines
 pub mod Places

@@ -1,61 +1,39 @@
--- `exchange::run_from` meets its contract: all that has come is what is done and what is held, from read to read; the reads that are left fall.
--- Assumes nothing.
+-- `exchange::run_from` meets its contract: all that has come is what is done and what is held, from read to read. Assumes nothing.
 use native.Mathlib.Omega.{arith}
-use mathlib.Core.Path.{refl, sym, ◌∙◌}
-use mathlib.Core.Bool.{not}
-use lib.ListN.{take}
-use lib.Seq.{length-take-le}
+use mathlib.Core.Path.{◌≡◌, sym, ap, ◌∙◌}
 use Rattle.laws.proofs.Split.{or_false}
+use Rattle.listing.specs.Listing.{refusal_text}
 use Rattle.listing.proofs.InParts.{holds_room}
-use Rattle.exchange.proofs.Turns.{none_seen, turned_on, turned_end, same_held, ended_going}
+use Rattle.exchange.proofs.Turns.{Come, none_seen, has_come, same_held, turned_on, turned_end, ended_going}
 use Rattle.exchange.proofs.run_from.Goals as goal
 
-pub loop-reads-init : goal.loop-reads-init
-loop-reads-init c = (refl, refl, omega arith, omega arith, omega arith, none_seen c.args.way c.args.first c.args.block.now)
+pub loop-init : goal.loop-init
+loop-init c = rw c.clear.ensures (omega arith, omega arith, omega arith, none_seen c.args.way c.args.first)
 
-pub returns-then-n-held : goal.returns-then-n-held
-returns-then-n-held c =
-    ended_going c.read_behind-come.new.block c.close.ensures.counts.0 c.close.ensures.counts.1 c.close.ensures.counts.2 (omega (arith, c.close.ensures.room, c.loop-reads.invariant.0, c.requires.out_len)) (omega (arith, c.read_behind-come.ensures.within))
-    (same_held c.loop-reads.block c.read_behind-come.new.block c.loop-reads.held c.read_behind-come.ensures.held c.loop-reads.invariant.5) c.close.ensures.line
-
-pub close-requires-then-turned-written : goal.close-requires-then-turned-written
-close-requires-then-turned-written c = omega (arith, c.turn-turned.auto.out, c.loop-reads.invariant.0, c.requires.out_len)
-
-pub shape_of-block-then-turned-written : goal.shape_of-block-then-turned-written
-shape_of-block-then-turned-written c = c.turn-turned.auto.block ∙ c.read_behind-come.auto.block ∙ c.loop-reads.invariant.1
-
-pub shape_of-out-then-turned-written : goal.shape_of-out-then-turned-written
-shape_of-out-then-turned-written c = c.close-then-turned-written.auto.out ∙ c.turn-turned.auto.out ∙ c.loop-reads.invariant.0
+pub returns-then-n-eq0 : goal.returns-then-n-eq0
+returns-then-n-eq0 c =
+    let read = c.read_behind-come in
+    let came : Come c.loop.block read.new.block c.unwrap_or-n.result = rw c.unwrap_or-n.ensures (has_come read.result read.ensures.held read.ensures.come read.ensures.failed) in
+    let same : read.new.block ≡ c.loop.block = same_held (rw c.if-n-eq0.true at came) in
+    rw same (ended_going c.loop.invariant.3 (c.close.ensures ∙ ap (refusal_text c.args.way) (rw same at c.bad.ensures)))
 
 pub returns-then-turned-written : goal.returns-then-turned-written
 returns-then-turned-written c =
-    turned_end c.loop-reads.block c.read_behind-come.new.block c.loop-reads.held c.read_behind-come.result.n c.read_behind-come.ensures.held c.read_behind-come.ensures.within.0 c.read_behind-come.ensures.within.1
-    c.loop-reads.invariant.5 c.turn-turned.ensures.number c.turn-turned.ensures.held c.turn-turned.ensures.block c.turn-turned.result.stopped c.turn-turned.ensures.stopped
-    c.close-then-turned-written.ensures.counts.0 c.close-then-turned-written.ensures.counts.1 c.close-then-turned-written.ensures.counts.2 (omega (arith, c.close-then-turned-written.ensures.room, c.turn-turned.auto.out, c.loop-reads.invariant.0, c.requires.out_len))
-    (omega (
-      arith,
-      c.turn-turned.ensures.held,
-      holds_room c.args.way (take c.read_behind-come.result.n c.read_behind-come.new.block),
-      length-take-le c.read_behind-come.result.n c.read_behind-come.new.block c.read_behind-come.ensures.within.1,
-      c.read_behind-come.ensures.within,
-      c.turn-turned.auto.block,
-    ))
-    c.close-then-turned-written.ensures.line
+    let read = c.read_behind-come in
+    let came : Come c.loop.block read.new.block c.unwrap_or-n.result = rw c.unwrap_or-n.ensures (has_come read.result read.ensures.held read.ensures.come read.ensures.failed) in
+    let turned = c.turn-turned in
+    turned_end came c.loop.invariant.3 turned.ensures.number turned.ensures.block turned.result.stopped turned.ensures.stopped (c.close-then-turned-written.ensures ∙ ap (refusal_text c.args.way) c.bad-then-turned-written.ensures)
 
-pub loop-reads-preserved : goal.loop-reads-preserved
-loop-reads-preserved c =
-    let size = length-take-le c.read_behind-come.result.n c.read_behind-come.new.block c.read_behind-come.ensures.within.1 in
-    let some = c.loop-reads-test.true in (
-      c.turn-turned.auto.out ∙ c.loop-reads.invariant.0,
-      c.turn-turned.auto.block ∙ c.read_behind-come.auto.block ∙ c.loop-reads.invariant.1,
-      omega (arith, c.turn-turned.ensures.held, holds_room c.args.way (take c.read_behind-come.result.n c.read_behind-come.new.block), size, c.read_behind-come.ensures.within, c.read_behind-come.auto.block, c.loop-reads.invariant.1, c.requires.block_len),
-      omega (arith, c.turn-turned.ensures.few, c.read_behind-come.ensures.within, c.read_behind-come.auto.block, c.loop-reads.invariant.1, c.loop-reads.invariant.3, c.requires.block_len, some),
-      omega (arith, c.read_behind-come.ensures.within, c.read_behind-come.auto.block, c.loop-reads.invariant.1, c.loop-reads.invariant.4, c.requires.block_len, some),
-      turned_on c.loop-reads.block c.read_behind-come.new.block c.loop-reads.held c.read_behind-come.result.n c.read_behind-come.ensures.held c.read_behind-come.ensures.within.0 c.read_behind-come.ensures.within.1
-          c.loop-reads.invariant.5 c.turn-turned.ensures.number c.turn-turned.ensures.held c.turn-turned.ensures.block (sym c.turn-turned.ensures.stopped ∙ (or_false c.turn-turned.result.stopped (not c.write_front-written.result) c.if-turned-written.false).0),
+pub loop-preserved : goal.loop-preserved
+loop-preserved c =
+    let read = c.read_behind-come in
+    let came : Come c.loop.block read.new.block c.unwrap_or-n.result = rw c.unwrap_or-n.ensures (has_come read.result read.ensures.held read.ensures.come read.ensures.failed) in
+    let turned = c.turn-turned in (
+      rw turned.ensures.block (omega (arith, holds_room c.args.way read.new.block, read.ensures.room)),
+      omega (arith, turned.ensures.few, read.ensures.room, c.loop.invariant.1),
+      omega (arith, came.more, read.ensures.room, c.loop.invariant.2),
+      turned_on came c.loop.invariant.3 turned.ensures.number turned.ensures.block (sym turned.ensures.stopped ∙ (or_false turned.result.stopped _ c.if-turned-written.false).0),
     )
 
 pub returns : goal.returns
-returns c =
-    ended_going c.loop-reads.block c.close-2.ensures.counts.0 c.close-2.ensures.counts.1 c.close-2.ensures.counts.2 (omega (arith, c.close-2.ensures.room, c.loop-reads.invariant.0, c.requires.out_len)) (omega (arith, c.loop-reads.invariant.1, c.loop-reads.invariant.2, c.requires.block_len))
-    c.loop-reads.invariant.5 c.close-2.ensures.line
+returns c = ended_going c.loop.invariant.3 (c.close-2.ensures ∙ ap (refusal_text c.args.way) c.bad-2.ensures)

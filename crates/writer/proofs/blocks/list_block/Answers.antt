@@ -1,52 +1,30 @@
--- `writer::blocks::list_block` meets its contract: at each turn the records before `at` are listed. Assumes nothing.
-use mathlib.Core.Path.{refl, ◌∙◌}
+-- `writer::blocks::list_block` meets its contract: at each turn the records before `at` are listed, and those from there on are to come. Assumes nothing.
+use mathlib.Core.Path.{sym, ◌∙◌}
 use native.Mathlib.Omega.{arith}
 use Rattle.listing.specs.declared.Way.TheVariants.{ToListing}
 use Rattle.writer.proofs.Block.{none_yet}
-use Rattle.writer.proofs.Pieces.{record_taken, record_bad, records_end}
+use Rattle.writer.proofs.Pieces.{comes, no_more, record_taken, record_bad, records_end}
 use Rattle.writer.proofs.blocks.list_block.Goals as goal
 
-pub loop-at-init : goal.loop-at-init
-loop-at-init c = (refl, none_yet ToListing c.args.records.now c.args.out.now)
+pub loop-record-init : goal.loop-record-init
+loop-record-init g c =
+    let all = c.chunks_exact-record-items.ensures in
+    rw c.into_iter-record-iterator.ensures.into_iter_gives
+    (omega (arith, all.size), tt, record { size = all.size; rest = all.rest }, none_yet ToListing c.args.records.now c.args.out.now)
 
-pub overflow_sub-records : goal.overflow_sub-records
-overflow_sub-records c = c.loop-at.invariant.1.inside
+pub returns-then-is_none : goal.returns-then-is_none
+returns-then-is_none g c =
+    let step = c.in-Some.ensures.steps in
+    let here = comes c.loop-record.invariant.2 {next = c.next.new.self} step.0 step.1.0 step.1.1 in
+    let listed = (rw here.is at c.list_record.ensures) in
+    record_bad c.loop-record.invariant.3 here.inside listed.puts listed.upper_bound (sym c.if-is_none.ensures ∙ listed.asks)
 
-pub overflow_add-at : goal.overflow_add-at
-overflow_add-at c = omega (arith, c.loop-at.invariant.1.inside, c.loop-at-test.true)
-
-pub slice_bounds-list_record-count : goal.slice_bounds-list_record-count
-slice_bounds-list_record-count c = omega arith
-
-pub slice_bounds-list_record-start : goal.slice_bounds-list_record-start
-slice_bounds-list_record-start c = omega arith
-
-pub slice_bounds-list_record-end : goal.slice_bounds-list_record-end
-slice_bounds-list_record-end c = omega (arith, c.loop-at.invariant.1.inside, c.loop-at-test.true)
-
-pub list_record-end-requires : goal.list_record-end-requires
-list_record-end-requires c = omega (arith, c.loop-at.invariant.1.room, c.loop-at.invariant.0, c.loop-at-test.true, c.requires)
-
-pub shape_of-out-then-end-next : goal.shape_of-out-then-end-next
-shape_of-out-then-end-next c = c.list_record-end.auto.out ∙ c.loop-at.invariant.0
-
-pub returns-then-end-next : goal.returns-then-end-next
-returns-then-end-next c = record_bad c.loop-at.invariant.1 (omega (arith, c.loop-at.invariant.1.inside, c.loop-at-test.true)) c.list_record-end.ensures.puts c.list_record-end.ensures.upper_bound c.if-end-next.true
-
-pub overflow_add-done : goal.overflow_add-done
-overflow_add-done c = omega (arith, c.loop-at.invariant.1.fewer, c.loop-at.invariant.1.inside, c.loop-at-test.true, c.requires)
-
-pub overflow_add-at-in-loop-at : goal.overflow_add-at-in-loop-at
-overflow_add-at-in-loop-at c = omega (arith, c.loop-at.invariant.1.inside, c.loop-at-test.true, c.requires)
-
-pub loop-at-smaller : goal.loop-at-smaller
-loop-at-smaller c = omega (arith, c.loop-at.invariant.1.inside, c.loop-at-test.true)
-
-pub loop-at-preserved : goal.loop-at-preserved
-loop-at-preserved c = (c.list_record-end.auto.out ∙ c.loop-at.invariant.0, record_taken c.loop-at.invariant.1 (omega (arith, c.loop-at.invariant.1.inside, c.loop-at-test.true)) c.list_record-end.ensures.puts c.list_record-end.ensures.upper_bound c.if-end-next.false)
-
-pub shape_of-out : goal.shape_of-out
-shape_of-out c = c.loop-at.invariant.0
+pub loop-record-preserved : goal.loop-record-preserved
+loop-record-preserved g c =
+    let step = c.in-Some.ensures.steps in
+    let here = comes c.loop-record.invariant.2 {next = c.next.new.self} step.0 step.1.0 step.1.1 in
+    let listed = (rw here.is at c.list_record.ensures) in
+    (omega (arith, here.more.size), tt, here.more, record_taken c.loop-record.invariant.3 here.inside listed.puts listed.upper_bound (sym c.if-is_none.ensures ∙ listed.asks))
 
 pub returns : goal.returns
-returns c = records_end c.loop-at.invariant.1 (omega (arith, c.loop-at.invariant.1.inside, c.loop-at-test.false))
+returns g c = records_end c.loop-record.invariant.3 (no_more c.loop-record.invariant.2 c.in-None.ensures.steps.1.0)

@@ -1,15 +1,12 @@
--- `writer::putting::put_used` meets its contract: nothing, or the space and the number one after the other. Assumes nothing.
-use mathlib.Core.Path.{refl}
+-- `writer::putting::put_used` meets its contract: a word has at most 10 digits. Assumes nothing.
+use borrow.Author.Rules.{rules}
 use native.Mathlib.Omega.{arith}
+use lib.ListN.{length-append}
 use Rattle.text.proofs.Room.{room_32}
-use Rattle.text.proofs.Putting.{◌followed_by◌}
 use Rattle.writer.proofs.putting.put_used.Goals as goal
 
-pub returns-then-not-used : goal.returns-then-not-used
-returns-then-not-used c = rw (c.if-not-used.true) (record { puts = record { bytes = refl; place = omega arith }; upper_bound = omega arith })
-
 pub put_number-requires : goal.put_number-requires
-put_number-requires c = omega (arith, room_32 c.ranges.n)
+put_number-requires g c = (search rules, grind (arith, length-append, c.push.ensures, c.requires, room_32 c.ranges.n))
 
-pub returns : goal.returns
-returns c = rw (c.if-not-used.false) (record { puts = c.put_byte-first.ensures followed_by c.put_number.ensures; upper_bound = omega (arith, room_32 c.ranges.n) })
+pub returns-then-used-clause-upper_bound : goal.returns-then-used-clause-upper_bound
+returns-then-used-clause-upper_bound g c = grind (arith, length-append, c.push.ensures, c.put_number.ensures, room_32 c.ranges.n)
