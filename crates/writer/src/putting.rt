@@ -17,7 +17,7 @@ fn put_used<const N: usize>(out: &mut Buffer<N>, used: bool, n: u32)
 {
     if used {
         out.push(b' ');
-        text::put_number(out, n as u64);
+        text::put_number(out, u64::from(n));
     }
 }
 
@@ -27,9 +27,9 @@ fn put_text<const N: usize>(out: &mut Buffer<N>, uses: Uses, fields: Fields)
     ensures puts { out.new ≡ out.old ++ (fields_text uses fields ++ line_feed ∷ []) }
     ensures upper_bound { length out.new ≤ length out.old + listed_room }
 {
-    text::put_number(out, fields.operation as u64);
-    put_used(out, uses.object, fields.object as u32);
-    put_used(out, uses.priority, fields.priority as u32);
+    text::put_number(out, u64::from(fields.operation));
+    put_used(out, uses.object, u32::from(fields.object));
+    put_used(out, uses.priority, u32::from(fields.priority));
     put_used(out, uses.number, fields.number);
     put_used(out, uses.parcel, fields.parcel);
     out.push(b'\n');

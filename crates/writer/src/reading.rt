@@ -16,13 +16,6 @@ pub struct Front<'a> {
     pub rest: &'a [u8],
 }
 
-// Is a character a digit.
-fn is_digit(c: u8) -> bool
-    ensures { result ≡ is_digit c }
-{
-    c.is_ascii_digit()
-}
-
 // A number with a digit written behind it.
 fn with_digit(n: u64, c: u8) -> u64
     ensures { result ≡ min (n * 10 + (c - 48)) most_long }
@@ -32,17 +25,17 @@ fn with_digit(n: u64, c: u8) -> u64
 }
 
 // How many digits a text begins with.
-fn digits(text: &[u8]) -> usize
+fn digit_count(text: &[u8]) -> usize
     ensures { result ≡ length (take_while is_digit text.now) }
 {
-    text.iter().take_while(|c| is_digit(**c)).count()
+    text.iter().take_while(|c| c.is_ascii_digit()).count()
 }
 
 // The number that a text begins with.
 fn number_from(text: &[u8]) -> Option<Front<'_>>
     ensures { front_of result ≡ told (number_from text.now) }
 {
-    let (digits, rest) = text.split_at(digits(text));
+    let (digits, rest) = text.split_at(digit_count(text));
     if digits.is_empty() {
         return None;
     }

@@ -7,7 +7,7 @@ use Rattle.text.proofs.Room.{room_8}
 use Rattle.writer.proofs.putting.put_text.Goals as goal
 
 pub put_number-requires : goal.put_number-requires
-put_number-requires g c = (search rules, omega (arith, c.requires, room_8 {n = c.args.fields.operation} (search rules)))
+put_number-requires g c = (search rules, grind (arith, c.requires, c.from.ensures, room_8 {n = c.args.fields.operation} (search rules)))
 
 pub put_used-requires : goal.put_used-requires
 put_used-requires g c =
