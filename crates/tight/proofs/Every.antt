@@ -6,14 +6,18 @@ use Rattle.laws.proofs.Split.{pass_together}
 use Rattle.laws.proofs.Word.{power_low}
 use Rattle.layout.specs.Held.{said}
 use Rattle.layout.proofs.Held.{whole_holds, becomes_one, whole_laid, laid_shows, changes_one}
-use Rattle.marks.proofs.Numbered.{numbered}
+use Rattle.marks.proofs.Named.{one_line}
 use Rattle.waiting.proofs.Doing.{does_one}
-use Rattle.text.proofs.Putting.{puts_tight}
+use Rattle.places.specs.Rings.{Entries}
 use Rattle.tight.specs.Each.{Each}
 
 -- what was lent first is the same, and nothing else was
 first : {A B : Type 0} {x x' : A} {y : B} → x ≡ x' → ◌≡◌ {A = A × B} (x, y) (x', y)
 first {y} e = λ j. (e j, y)
+
+-- what is noted is both lists
+noted_one : {x y : Entries} → x.lines ≡ y.lines → x.places ≡ y.places → x ≡ y
+noted_one e f = λ j. record { lines = e j; places = f j }
 
 pub each : Each
 each = record {
@@ -56,33 +60,25 @@ each = record {
   records_thread_at = λ κs a z z' ws ws' h p q. (p _ refl ∙ sym (q _ refl), refl);
   records_word = λ κs a z z' ws ws' h p q. (p ∙ sym q, refl);
   -- marks
-  marks_first_mark = λ κs a z z' ws ws' h p q. let l = numbered a.0 in (p l.0 l.1 ∙ sym (q l.0 l.1), refl);
+  marks_first_mark = λ κs a z z' ws ws' h p q. (p ∙ sym q, refl);
+  marks_line_of = λ κs a z z' ws ws' h p q. (one_line (p ∙ sym q), refl);
+  marks_mark_of = λ κs a z z' ws ws' h p q. (p ∙ sym q, refl);
+  marks_number_of = λ κs a z z' ws ws' h p q. (p ∙ sym q, refl);
   marks_has_mark = λ κs a z z' ws ws' h p q. (p.0 ∙ sym q.0, refl);
-  marks_line_of = λ κs a z z' ws ws' h p q. (p ∙ sym q, refl);
-  marks_mark_of = λ κs a z z' ws ws' h p q. let l = numbered a.0 in (p l.0 l.1 ∙ sym (q l.0 l.1), refl);
-  marks_ready_line = λ κs a z z' ws ws' h p q. (p ∙ sym q, refl);
-  marks_senders_line = λ κs a z z' ws ws' h p q. (p ∙ sym q, refl);
-  marks_waiters_line = λ κs a z z' ws ws' h p q. (p ∙ sym q, refl);
   -- lines
+  lines_first_of = λ κs a z z' ws ws' h p q. (p.1 _ refl ∙ sym (q.1 _ refl), refl);
+  lines_line_length = λ κs a z z' ws ws' h p q. (p _ refl ∙ sym (q _ refl), refl);
   lines_fill = λ κs a z z' ws ws' h p q. (refl, first (becomes_one h.1 p q));
-  lines_first_of = λ κs a z z' ws ws' h p q. let l = numbered a.1.0 in (p _ l.0 refl l.1 ∙ sym (q _ l.0 refl l.1), refl);
   lines_in_rank = λ κs a z z' ws ws' h p q. (p ∙ sym q, refl);
   lines_is_ready = λ κs a z z' ws ws' h p q. (p ∙ sym q, refl);
   lines_join = λ κs a z z' ws ws' h p q. (p.0 _ refl ∙ sym (q.0 _ refl), first (becomes_one h.1 p.1 q.1));
   lines_leave = λ κs a z z' ws ws' h p q. (p.0 _ refl ∙ sym (q.0 _ refl), first (becomes_one h.1 p.1 q.1));
-  lines_line_length = λ κs a z z' ws ws' h p q. let l = numbered a.1.0 in (p _ l.0 refl l.1 ∙ sym (q _ l.0 refl l.1), refl);
   lines_to_tail = λ κs a z z' ws ws' h p q. (refl, first (becomes_one h.1 p q));
   -- ready
-  ready_free_thread = λ κs a z z' ws ws' h p q. (refl, first (becomes_one h.1 p q));
   ready_highest = λ κs a z z' ws ws' h p q. (omega (arith, power_low _ _ _ p.1 q.2, power_low _ _ _ q.1 p.2), refl);
-  ready_leave = λ κs a z z' ws ws' h p q. let e = becomes_one h.1 p.1 q.1 in (p.0 _ refl ∙ sym (q.0 _ (ap said (sym e))), first e);
+  ready_moved = λ F l g d e κs a z z' ws ws' h p q. let same = becomes_one h.1.0.1 (p.1.1 h.1.1.0 h.1.1.1) (q.1.1 h.1.1.0 h.1.1.1) in (p.0 _ refl ∙ sym (q.0 _ (ap said (sym same))), first same);
   ready_ready_bit = λ κs a z z' ws ws' h p q. (p ∙ sym q, refl);
-  ready_set_priority = λ κs a z z' ws ws' h p q. (refl, first (becomes_one h.1 p q));
-  ready_set_stopped = λ κs a z z' ws ws' h p q. (refl, first (becomes_one h.1 p q));
-  ready_set_suspended = λ κs a z z' ws ws' h p q. (refl, first (becomes_one h.1 p q));
-  ready_set_wait = λ κs a z z' ws ws' h p q. (refl, first (becomes_one h.1 p q));
   ready_settle = λ κs a z z' ws ws' h p q. (refl, first (becomes_one h p q));
-  ready_store_thread = λ κs a z z' ws ws' h p q. (refl, first (becomes_one h.1 p q));
   ready_top_thread = λ κs a z z' ws ws' h p q. (p.1 _ refl ∙ sym (q.1 _ refl), refl);
   -- canon
   canon_kernel_canon = λ κs a z z' ws ws' h p q. (p ∙ sym q, refl);
@@ -90,18 +86,20 @@ each = record {
   canon_thread_canon = λ κs a z z' ws ws' h p q. (p ∙ sym q, refl);
   canon_thread_zero = λ κs a z z' ws ws' h p q. (p ∙ sym q, refl);
   -- places
-  places_all_placed = λ κs a z z' ws ws' h p q. (p.0 ∙ sym q.0, λ j. ((p.1.0 ∙ sym q.1.0) j, first (p.1.1 ∙ sym q.1.1) j));
+  places_all_placed = λ κs a z z' ws ws' h p q. (p.0 ∙ sym q.0, first (noted_one (p.1.0 ∙ sym q.1.0) (p.1.1 ∙ sym q.1.1)));
+  places_new = λ κs a z z' ws ws' h p q. (noted_one (p.0 ∙ sym q.0) (p.1 ∙ sym q.1), refl);
+  places_note = λ κs a z z' ws ws' h p q. (refl, first (noted_one (p.0 ∙ sym q.0) (p.1 ∙ sym q.1)));
   -- sound
   sound_sound = λ κs a z z' ws ws' h p q. (p ∙ sym q, refl);
   -- waiting
+  waiting_in_use = λ κs a z z' ws ws' h p q. (p.0 _ refl ∙ sym (q.0 _ refl), refl);
+  waiting_may_wait = λ κs a z z' ws ws' h p q. (p _ refl ∙ sym (q _ refl), refl);
+  waiting_serve = λ κs a z z' ws ws' h p q. (refl, first (becomes_one h p q));
   waiting_accept = λ κs a z z' ws ws' h p q. let d = does_one h p q in (d.1, first d.0);
   waiting_block = λ κs a z z' ws ws' h p q. let d = does_one h.1.whole p q in (d.1, first d.0);
   waiting_break_off = λ κs a z z' ws ws' h p q. let d = does_one h.whole p q in (d.1, first d.0);
   waiting_end_wait = λ κs a z z' ws ws' h p q. (refl, first (becomes_one h.1 p q));
-  waiting_may_not_wait = λ κs a z z' ws ws' h p q. (p _ refl ∙ sym (q _ refl), refl);
   waiting_must_wait = λ κs a z z' ws ws' h p q. let d = does_one h.1.whole (p (λ n. a.1.1.0) refl) (q (λ n. a.1.1.0) refl) in (d.1, first d.0);
-  waiting_no_thread = λ κs a z z' ws ws' h p q. (p _ refl ∙ sym (q _ refl), refl);
-  waiting_serve = λ κs a z z' ws ws' h p q. let l = numbered a.1.1.0 in (refl, first (becomes_one h (p l.0 l.1) (q l.0 l.1)));
   waiting_wait_counter = λ κs a z z' ws ws' h p q. (p ∙ sym q, refl);
   -- threads
   threads_cancel = λ κs a z z' ws ws' h p q. let d = does_one h.whole p q in (d.1, first d.0);
@@ -148,39 +146,29 @@ each = record {
   kernel_speltmallet_door = λ κs a z z' ws ws' h p q. (p.0 ∙ sym q.0, λ j. ((p.1.0 ∙ sym q.1.0) j, (ws.1.0, ((p.1.1 ∙ sym q.1.1) j, ws.1.1.1))));
   -- reader
   reader_read_from = λ κs a z z' ws ws' h p q. (p ∙ sym q, refl);
+  -- buffer
+  buffer_as_slice = λ N f κs a z z' ws ws' h p q. (p ∙ sym q, refl);
+  buffer_clear = λ N f κs a z z' ws ws' h p q. (refl, first (p ∙ sym q));
+  buffer_drop_front = λ N f κs a z z' ws ws' h p q. (refl, first (p ∙ sym q));
+  buffer_extend = λ N f κs a z z' ws ws' h p q. (refl, first (p ∙ sym q));
+  buffer_len = λ N f κs a z z' ws ws' h p q. (p.0 ∙ sym q.0, refl);
+  buffer_new = λ N f κs a z z' ws ws' h p q. (p ∙ sym q, refl);
+  buffer_push = λ N f κs a z z' ws ws' h p q. (refl, first (p ∙ sym q));
   -- text
-  text_put_byte = λ κs a z z' ws ws' h p q. let d = puts_tight p q in (d.1, first d.0);
-  text_put_bytes = λ κs a z z' ws ws' h p q. let d = puts_tight p q in (d.1, first d.0);
-  text_put_field = λ κs a z z' ws ws' h p q. let d = puts_tight p.0 q.0 in (d.1, first d.0);
-  text_put_line = λ κs a z z' ws ws' h p q. let d = puts_tight p.0 q.0 in (d.1, first d.0);
-  text_put_number = λ κs a z z' ws ws' h p q. let d = puts_tight p q in (d.1, first d.0);
-  text_put_short = λ κs a z z' ws ws' h p q. let d = puts_tight p.0 q.0 in (d.1, first d.0);
-  text_put_signed = λ κs a z z' ws ws' h p q. let d = puts_tight p q in (d.1, first d.0);
-  -- parts
-  parts_keep = λ κs a z z' ws ws' h p q. (p.0 ∙ sym q.0, first (p.1 ∙ sym q.1));
+  text_put_field = λ N f κs a z z' ws ws' h p q. (refl, first (p ∙ sym q));
+  text_put_line = λ N f κs a z z' ws ws' h p q. (refl, first (p.0 ∙ sym q.0));
+  text_put_number = λ N f κs a z z' ws ws' h p q. (refl, first (p ∙ sym q));
+  text_put_short = λ N f κs a z z' ws ws' h p q. (refl, first (p.0 ∙ sym q.0));
+  text_put_signed = λ N f κs a z z' ws ws' h p q. (refl, first (p ∙ sym q));
   -- writer
-  writer_refuse = λ κs a z z' ws ws' h p q. let d = puts_tight p.0 q.0 in (d.1, λ j. (ws.0, (ws.1.0, (ws.1.1.0, (d.0 j, ws.1.1.1.1)))));
-  writer_turn = λ κs a z z' ws ws' h p q. let d = puts_tight p.1.1.1.1.1.0 q.1.1.1.1.1.0 in (
-    λ j. record {
-      number = (p.0 ∙ sym q.0) j;
-      held = (p.1.1.1.0 ∙ sym q.1.1.1.0) j;
-      next = d.1 j;
-      stopped = (p.1.1.0 ∙ sym q.1.1.0) j;
-    },
-    λ j. (ws.0, (ws.1.0, ((p.1.1.1.1.0 ∙ sym q.1.1.1.1.0) j, (ws.1.1.1.0, (d.0 j, ws.1.1.1.1.1))))),
-  );
+  writer_refuse = λ N f κs a z z' ws ws' h p q. (refl, λ j. ?);
+  writer_turn = λ N f M g κs a z z' ws ws' h p q. ?;
   -- replay
-  replay_finish = λ κs a z z' ws ws' h p q. let d = puts_tight p.0 q.0 in (d.1, λ j. (ws.0, (d.0 j, ws.1.1)));
+  replay_finish = λ N f κs a z z' ws ws' h p q. (refl, ?);
   replay_fresh = λ κs a z z' ws ws' h p q. (p ∙ sym q, refl);
-  replay_serve = λ κs a z z' ws ws' h p q. let d = puts_tight p.0.lines q.0.lines in (
-    λ j. record { number = (p.1.0 ∙ sym q.1.0) j; held = (p.1.1.0 ∙ sym q.1.1.0) j; next = d.1 j },
-    λ j. ((p.0.table ∙ sym q.0.table) j, (ws.1.0, ((p.1.1.1 ∙ sym q.1.1.1) j, (ws.1.1.1.0, (d.0 j, ws.1.1.1.1.1))))),
-  );
+  replay_serve = λ N f M g κs a z z' ws ws' h p q. ?;
   -- accounts
-  accounts_serve = λ κs a z z' ws ws' h p q. (
-    λ j. record { number = (p.0.0 ∙ sym q.0.0) j; held = (p.0.1 ∙ sym q.0.1) j },
-    λ j. ((p.1.0 ∙ sym q.1.0) j, ((p.1.1.0 ∙ sym q.1.1.0) j, (ws.1.1.0, ((p.1.1.1 ∙ sym q.1.1.1) j, ws.1.1.1.1)))),
-  );
+  accounts_serve = λ N f κs a z z' ws ws' h p q. ?;
   -- lags
-  lags_put_report = λ κs a z z' ws ws' h p q. let d = puts_tight p.0 q.0 in (d.1, λ j. (ws.0, (ws.1.0, (ws.1.1.0, (d.0 j, ws.1.1.1.1)))));
+  lags_put_report = λ N f κs a z z' ws ws' h p q. ?;
 }

@@ -1,4 +1,9 @@
 -- Every public function's own promise is tight: a field for each. The three functions over the trace reader stand in `Readers.antt`.
+use Rattle.std.specs.Prelude.{ℕ}
+use mir.Val.{Fits}
+use mir.Syntax.{w64, Dict}
+use denote.RattleType.{RattleType}
+use denote.Param.Laws.{Laws}
 use Rattle.boards.proofs as boards
 use Rattle.words.proofs as words
 use Rattle.records.proofs as records
@@ -18,15 +23,15 @@ use Rattle.request.proofs as request
 use Rattle.answer.proofs as answer
 use Rattle.kernel.proofs as kernel
 use Rattle.reader.proofs as reader
+use Rattle.buffer.proofs as buffer
 use Rattle.text.proofs as text
-use Rattle.parts.proofs as parts
 use Rattle.writer.proofs as writer
 use Rattle.replay.proofs as replay
 use Rattle.accounts.proofs as accounts
 use Rattle.lags.proofs as lags
-use Rattle.tight.specs.Promise.{Determines}
+use Rattle.tight.specs.Promise.{Determines, DeterminesBehind}
 
-pub record Each : Type 1 where
+pub record Each : Type 2 where
   -- boards
   pub boards_is_long : Determines boards.is_long.Kinds.ps boards.is_long.Kinds.r boards.is_long.Reads.Pre boards.is_long.Reads.Post
   pub boards_kernel_from : Determines boards.kernel_from.Kinds.ps boards.kernel_from.Kinds.r boards.kernel_from.Reads.Pre boards.kernel_from.Reads.Post
@@ -70,9 +75,7 @@ pub record Each : Type 1 where
   pub marks_has_mark : Determines marks.has_mark.Kinds.ps marks.has_mark.Kinds.r marks.has_mark.Reads.Pre marks.has_mark.Reads.Post
   pub marks_line_of : Determines marks.line_of.Kinds.ps marks.line_of.Kinds.r marks.line_of.Reads.Pre marks.line_of.Reads.Post
   pub marks_mark_of : Determines marks.mark_of.Kinds.ps marks.mark_of.Kinds.r marks.mark_of.Reads.Pre marks.mark_of.Reads.Post
-  pub marks_ready_line : Determines marks.ready_line.Kinds.ps marks.ready_line.Kinds.r marks.ready_line.Reads.Pre marks.ready_line.Reads.Post
-  pub marks_senders_line : Determines marks.senders_line.Kinds.ps marks.senders_line.Kinds.r marks.senders_line.Reads.Pre marks.senders_line.Reads.Post
-  pub marks_waiters_line : Determines marks.waiters_line.Kinds.ps marks.waiters_line.Kinds.r marks.waiters_line.Reads.Pre marks.waiters_line.Reads.Post
+  pub marks_number_of : Determines marks.number_of.Kinds.ps marks.number_of.Kinds.r marks.number_of.Reads.Pre marks.number_of.Reads.Post
   -- lines
   pub lines_fill : Determines lines.fill.Kinds.ps lines.fill.Kinds.r lines.fill.Reads.Pre lines.fill.Reads.Post
   pub lines_first_of : Determines lines.first_of.Kinds.ps lines.first_of.Kinds.r lines.first_of.Reads.Pre lines.first_of.Reads.Post
@@ -83,16 +86,10 @@ pub record Each : Type 1 where
   pub lines_line_length : Determines lines.line_length.Kinds.ps lines.line_length.Kinds.r lines.line_length.Reads.Pre lines.line_length.Reads.Post
   pub lines_to_tail : Determines lines.to_tail.Kinds.ps lines.to_tail.Kinds.r lines.to_tail.Reads.Pre lines.to_tail.Reads.Post
   -- ready
-  pub ready_free_thread : Determines ready.free_thread.Kinds.ps ready.free_thread.Kinds.r ready.free_thread.Reads.Pre ready.free_thread.Reads.Post
   pub ready_highest : Determines ready.highest.Kinds.ps ready.highest.Kinds.r ready.highest.Reads.Pre ready.highest.Reads.Post
-  pub ready_leave : Determines ready.leave.Kinds.ps ready.leave.Kinds.r ready.leave.Reads.Pre ready.leave.Reads.Post
+  pub ready_moved : (F : RattleType) (l : Laws F) (g : _) (d e : Dict) → Determines (ready.moved.Kinds.ps F l) (ready.moved.Kinds.r F l) (ready.moved.Reads.Pre F l g d e) (ready.moved.Reads.Post F l g d e)
   pub ready_ready_bit : Determines ready.ready_bit.Kinds.ps ready.ready_bit.Kinds.r ready.ready_bit.Reads.Pre ready.ready_bit.Reads.Post
-  pub ready_set_priority : Determines ready.set_priority.Kinds.ps ready.set_priority.Kinds.r ready.set_priority.Reads.Pre ready.set_priority.Reads.Post
-  pub ready_set_stopped : Determines ready.set_stopped.Kinds.ps ready.set_stopped.Kinds.r ready.set_stopped.Reads.Pre ready.set_stopped.Reads.Post
-  pub ready_set_suspended : Determines ready.set_suspended.Kinds.ps ready.set_suspended.Kinds.r ready.set_suspended.Reads.Pre ready.set_suspended.Reads.Post
-  pub ready_set_wait : Determines ready.set_wait.Kinds.ps ready.set_wait.Kinds.r ready.set_wait.Reads.Pre ready.set_wait.Reads.Post
   pub ready_settle : Determines ready.settle.Kinds.ps ready.settle.Kinds.r ready.settle.Reads.Pre ready.settle.Reads.Post
-  pub ready_store_thread : Determines ready.store_thread.Kinds.ps ready.store_thread.Kinds.r ready.store_thread.Reads.Pre ready.store_thread.Reads.Post
   pub ready_top_thread : Determines ready.top_thread.Kinds.ps ready.top_thread.Kinds.r ready.top_thread.Reads.Pre ready.top_thread.Reads.Post
   -- canon
   pub canon_kernel_canon : Determines canon.kernel_canon.Kinds.ps canon.kernel_canon.Kinds.r canon.kernel_canon.Reads.Pre canon.kernel_canon.Reads.Post
@@ -100,7 +97,9 @@ pub record Each : Type 1 where
   pub canon_thread_canon : Determines canon.thread_canon.Kinds.ps canon.thread_canon.Kinds.r canon.thread_canon.Reads.Pre canon.thread_canon.Reads.Post
   pub canon_thread_zero : Determines canon.thread_zero.Kinds.ps canon.thread_zero.Kinds.r canon.thread_zero.Reads.Pre canon.thread_zero.Reads.Post
   -- places
-  pub places_all_placed : Determines places.all_placed.Kinds.ps places.all_placed.Kinds.r places.all_placed.Reads.Pre places.all_placed.Reads.Post
+  pub places_all_placed : Determines places.Noted.all_placed.Kinds.ps places.Noted.all_placed.Kinds.r places.Noted.all_placed.Reads.Pre places.Noted.all_placed.Reads.Post
+  pub places_new : Determines places.Noted.new.Kinds.ps places.Noted.new.Kinds.r places.Noted.new.Reads.Pre places.Noted.new.Reads.Post
+  pub places_note : Determines places.Noted.note.Kinds.ps places.Noted.note.Kinds.r places.Noted.note.Reads.Pre places.Noted.note.Reads.Post
   -- sound
   pub sound_sound : Determines sound.sound.Kinds.ps sound.sound.Kinds.r sound.sound.Reads.Pre sound.sound.Reads.Post
   -- waiting
@@ -108,9 +107,9 @@ pub record Each : Type 1 where
   pub waiting_block : Determines waiting.block.Kinds.ps waiting.block.Kinds.r waiting.block.Reads.Pre waiting.block.Reads.Post
   pub waiting_break_off : Determines waiting.break_off.Kinds.ps waiting.break_off.Kinds.r waiting.break_off.Reads.Pre waiting.break_off.Reads.Post
   pub waiting_end_wait : Determines waiting.end_wait.Kinds.ps waiting.end_wait.Kinds.r waiting.end_wait.Reads.Pre waiting.end_wait.Reads.Post
-  pub waiting_may_not_wait : Determines waiting.may_not_wait.Kinds.ps waiting.may_not_wait.Kinds.r waiting.may_not_wait.Reads.Pre waiting.may_not_wait.Reads.Post
+  pub waiting_in_use : Determines waiting.in_use.Kinds.ps waiting.in_use.Kinds.r waiting.in_use.Reads.Pre waiting.in_use.Reads.Post
+  pub waiting_may_wait : Determines waiting.may_wait.Kinds.ps waiting.may_wait.Kinds.r waiting.may_wait.Reads.Pre waiting.may_wait.Reads.Post
   pub waiting_must_wait : Determines waiting.must_wait.Kinds.ps waiting.must_wait.Kinds.r waiting.must_wait.Reads.Pre waiting.must_wait.Reads.Post
-  pub waiting_no_thread : Determines waiting.no_thread.Kinds.ps waiting.no_thread.Kinds.r waiting.no_thread.Reads.Pre waiting.no_thread.Reads.Post
   pub waiting_serve : Determines waiting.serve.Kinds.ps waiting.serve.Kinds.r waiting.serve.Reads.Pre waiting.serve.Reads.Post
   pub waiting_wait_counter : Determines waiting.wait_counter.Kinds.ps waiting.wait_counter.Kinds.r waiting.wait_counter.Reads.Pre waiting.wait_counter.Reads.Post
   -- threads
@@ -154,24 +153,28 @@ pub record Each : Type 1 where
   pub kernel_speltmallet_door : Determines kernel.speltmallet_door.Kinds.ps kernel.speltmallet_door.Kinds.r kernel.speltmallet_door.Reads.Pre kernel.speltmallet_door.Reads.Post
   -- reader
   pub reader_read_from : Determines reader.read_from.Kinds.ps reader.read_from.Kinds.r reader.read_from.Reads.Pre reader.read_from.Reads.Post
+  -- buffer
+  pub buffer_as_slice : (N : ℕ) (f : Fits w64 N) → DeterminesBehind (buffer.Buffer.as_slice.Kinds.ps N f) (buffer.Buffer.as_slice.Kinds.r N f) (λ κs z. z.now) (buffer.Buffer.as_slice.Reads.Pre N f) (buffer.Buffer.as_slice.Reads.Post N f)
+  pub buffer_clear : (N : ℕ) (f : Fits w64 N) → Determines (buffer.Buffer.clear.Kinds.ps N f) (buffer.Buffer.clear.Kinds.r N f) (buffer.Buffer.clear.Reads.Pre N f) (buffer.Buffer.clear.Reads.Post N f)
+  pub buffer_drop_front : (N : ℕ) (f : Fits w64 N) → Determines (buffer.Buffer.drop_front.Kinds.ps N f) (buffer.Buffer.drop_front.Kinds.r N f) (buffer.Buffer.drop_front.Reads.Pre N f) (buffer.Buffer.drop_front.Reads.Post N f)
+  pub buffer_extend : (N : ℕ) (f : Fits w64 N) → Determines (buffer.Buffer.extend.Kinds.ps N f) (buffer.Buffer.extend.Kinds.r N f) (buffer.Buffer.extend.Reads.Pre N f) (buffer.Buffer.extend.Reads.Post N f)
+  pub buffer_len : (N : ℕ) (f : Fits w64 N) → Determines (buffer.Buffer.len.Kinds.ps N f) (buffer.Buffer.len.Kinds.r N f) (buffer.Buffer.len.Reads.Pre N f) (buffer.Buffer.len.Reads.Post N f)
+  pub buffer_new : (N : ℕ) (f : Fits w64 N) → Determines (buffer.Buffer.new.Kinds.ps N f) (buffer.Buffer.new.Kinds.r N f) (buffer.Buffer.new.Reads.Pre N f) (buffer.Buffer.new.Reads.Post N f)
+  pub buffer_push : (N : ℕ) (f : Fits w64 N) → Determines (buffer.Buffer.push.Kinds.ps N f) (buffer.Buffer.push.Kinds.r N f) (buffer.Buffer.push.Reads.Pre N f) (buffer.Buffer.push.Reads.Post N f)
   -- text
-  pub text_put_byte : Determines text.put_byte.Kinds.ps text.put_byte.Kinds.r text.put_byte.Reads.Pre text.put_byte.Reads.Post
-  pub text_put_bytes : Determines text.put_bytes.Kinds.ps text.put_bytes.Kinds.r text.put_bytes.Reads.Pre text.put_bytes.Reads.Post
-  pub text_put_field : Determines text.put_field.Kinds.ps text.put_field.Kinds.r text.put_field.Reads.Pre text.put_field.Reads.Post
-  pub text_put_line : Determines text.put_line.Kinds.ps text.put_line.Kinds.r text.put_line.Reads.Pre text.put_line.Reads.Post
-  pub text_put_number : Determines text.put_number.Kinds.ps text.put_number.Kinds.r text.put_number.Reads.Pre text.put_number.Reads.Post
-  pub text_put_short : Determines text.put_short.Kinds.ps text.put_short.Kinds.r text.put_short.Reads.Pre text.put_short.Reads.Post
-  pub text_put_signed : Determines text.put_signed.Kinds.ps text.put_signed.Kinds.r text.put_signed.Reads.Pre text.put_signed.Reads.Post
-  -- parts
-  pub parts_keep : Determines parts.keep.Kinds.ps parts.keep.Kinds.r parts.keep.Reads.Pre parts.keep.Reads.Post
+  pub text_put_field : (N : ℕ) (f : Fits w64 N) → Determines (text.put_field.Kinds.ps N f) (text.put_field.Kinds.r N f) (text.put_field.Reads.Pre N f) (text.put_field.Reads.Post N f)
+  pub text_put_line : (N : ℕ) (f : Fits w64 N) → Determines (text.put_line.Kinds.ps N f) (text.put_line.Kinds.r N f) (text.put_line.Reads.Pre N f) (text.put_line.Reads.Post N f)
+  pub text_put_number : (N : ℕ) (f : Fits w64 N) → Determines (text.put_number.Kinds.ps N f) (text.put_number.Kinds.r N f) (text.put_number.Reads.Pre N f) (text.put_number.Reads.Post N f)
+  pub text_put_short : (N : ℕ) (f : Fits w64 N) → Determines (text.put_short.Kinds.ps N f) (text.put_short.Kinds.r N f) (text.put_short.Reads.Pre N f) (text.put_short.Reads.Post N f)
+  pub text_put_signed : (N : ℕ) (f : Fits w64 N) → Determines (text.put_signed.Kinds.ps N f) (text.put_signed.Kinds.r N f) (text.put_signed.Reads.Pre N f) (text.put_signed.Reads.Post N f)
   -- writer
-  pub writer_refuse : Determines writer.refuse.Kinds.ps writer.refuse.Kinds.r writer.refuse.Reads.Pre writer.refuse.Reads.Post
-  pub writer_turn : Determines writer.turn.Kinds.ps writer.turn.Kinds.r writer.turn.Reads.Pre writer.turn.Reads.Post
+  pub writer_refuse : (N : ℕ) (f : Fits w64 N) → Determines (writer.refuse.Kinds.ps N f) (writer.refuse.Kinds.r N f) (writer.refuse.Reads.Pre N f) (writer.refuse.Reads.Post N f)
+  pub writer_turn : (N : ℕ) (f : Fits w64 N) (M : ℕ) (g : Fits w64 M) → Determines (writer.turn.Kinds.ps N f M g) (writer.turn.Kinds.r N f M g) (writer.turn.Reads.Pre N f M g) (writer.turn.Reads.Post N f M g)
   -- replay
-  pub replay_finish : Determines replay.finish.Kinds.ps replay.finish.Kinds.r replay.finish.Reads.Pre replay.finish.Reads.Post
+  pub replay_finish : (N : ℕ) (f : Fits w64 N) → Determines (replay.finish.Kinds.ps N f) (replay.finish.Kinds.r N f) (replay.finish.Reads.Pre N f) (replay.finish.Reads.Post N f)
   pub replay_fresh : Determines replay.fresh.Kinds.ps replay.fresh.Kinds.r replay.fresh.Reads.Pre replay.fresh.Reads.Post
-  pub replay_serve : Determines replay.serve.Kinds.ps replay.serve.Kinds.r replay.serve.Reads.Pre replay.serve.Reads.Post
+  pub replay_serve : (N : ℕ) (f : Fits w64 N) (M : ℕ) (g : Fits w64 M) → Determines (replay.serve.Kinds.ps N f M g) (replay.serve.Kinds.r N f M g) (replay.serve.Reads.Pre N f M g) (replay.serve.Reads.Post N f M g)
   -- accounts
-  pub accounts_serve : Determines accounts.serve.Kinds.ps accounts.serve.Kinds.r accounts.serve.Reads.Pre accounts.serve.Reads.Post
+  pub accounts_serve : (N : ℕ) (f : Fits w64 N) → Determines (accounts.serve.Kinds.ps N f) (accounts.serve.Kinds.r N f) (accounts.serve.Reads.Pre N f) (accounts.serve.Reads.Post N f)
   -- lags
-  pub lags_put_report : Determines lags.put_report.Kinds.ps lags.put_report.Kinds.r lags.put_report.Reads.Pre lags.put_report.Reads.Post
+  pub lags_put_report : (N : ℕ) (f : Fits w64 N) → Determines (lags.put_report.Kinds.ps N f) (lags.put_report.Kinds.r N f) (lags.put_report.Reads.Pre N f) (lags.put_report.Reads.Post N f)

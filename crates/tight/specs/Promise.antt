@@ -13,3 +13,10 @@ Determines {n} ps r pre post =
     let T = ended_of n ps r in
     (κs : Lfts n) (a : Dens κs ps) (z z' : (res_t r κs).Denot) (ws ws' : Lasts T κs a)
     → pre κs a → post κs a z (at_exit T κs a ws) → post κs a z' (at_exit T κs a ws') → (z ≡ z') × (ws ≡ ws')
+
+-- the same where the answer is a reference: what it says by `see` of what stands behind is the same, since where that stands no contract says
+abbrev pub DeterminesBehind : {n : ℕ} {A : Type 0} (ps : List (ParamKind n)) (r : ResultKind n) → ((κs : Lfts n) → (res_t r κs).Denot → A) → In n ps → Out n ps r → Type 0
+DeterminesBehind {n} ps r see pre post =
+    let T = ended_of n ps r in
+    (κs : Lfts n) (a : Dens κs ps) (z z' : (res_t r κs).Denot) (ws ws' : Lasts T κs a)
+    → pre κs a → post κs a z (at_exit T κs a ws) → post κs a z' (at_exit T κs a ws') → (see κs z ≡ see κs z') × (ws ≡ ws')

@@ -10,9 +10,9 @@ use contract.Lifetimes.{Lfts}
 use contract.Monad.{Fun, fact}
 use denote.Triple.Clauses.{Ended, Clauses, AtExit, Lasts, at_exit}
 use denote.Triple.Entry.{Args, Res}
-use Rattle.reader.specs.contracts.new as new
-use Rattle.reader.specs.contracts.moved as moved
-use Rattle.reader.specs.contracts.next as next
+use Rattle.reader.specs.contracts.TraceReader.new as new
+use Rattle.reader.specs.contracts.TraceReader.moved as moved
+use Rattle.reader.specs.contracts.TraceReader.next as next
 
 abbrev ClausesOf : Ended → Type 2
 ClausesOf T = (M : Type 1) (𝓤 : Ura M) (𝓛 : Logic 𝓤) → (Memory → SProp 𝓤) → (Routine → Fun 𝓤) → Clauses 𝓤 T

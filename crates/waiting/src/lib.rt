@@ -97,7 +97,7 @@ pub fn in_use(t: &[u8], i: u8) -> Result<Thread, Refusal>
 }
 
 // The wait of thread `i` ends with −5, where `named` says whether it is of the kind that the operation names. Refused in the order −1, −4.
-// It stays a flag: the theorem `waiting_break_off` says that the promise determines the answer, and no promise on a closure does.
+// It stays a flag: both callers have the thread at hand, and what a closure must promise is longer than the test that it would stand for.
 #[tactic(auto, unfolding(rules::specs::Threads::break_off))]
 pub fn break_off(t: &mut [u8], i: u8, named: bool) -> Answer
     requires { Serves t.old }
