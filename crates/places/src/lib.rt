@@ -42,26 +42,25 @@ fn length_of(lines: &[u8], line: u8) -> u8
     length
 }
 
-// Has any of these that place of the line? All are asked, also after one that has it: so they are asked in vectors, without a branch.
+// Has any of these that place of the line? All are asked, also after one that has it: in vectors, without a branch.
 fn shared(lines: &[u8], places: &[u8], line: u8, place: u8) -> bool
     requires { length places.now ≡ length lines.now }
     ensures { (result ≡ false) ↔ ((k : ℕ) → k < length lines.now → entry_at lines.now places.now line place k ≡ false) }
 {
     let mut found = false;
     for (l, p) in lines.iter().zip(places) {
-        found |= *l == line && *p == place;
+        found |= (*l == line) & (*p == place);
     }
     found
 }
 
-// In no line a thread's place is 0; in a line of that length it is one of 1 to the length, and not shared.
+// In no line a thread's place is 0; in a line of that length it is one of 1 to the length, and not shared. All of it is asked, without a branch,
+// so that all threads are asked at once.
 fn misplaced(line: u8, place: u8, length: u8, shared: bool) -> bool
     ensures { (result ≡ false) ↔ ((line ≡ 0 → place ≡ 0) × ((line ≡ 0 → ⊥) → (1 ≤ place) × (place ≤ length) × (shared ≡ false))) }
 {
-    if line == 0 {
-        return place != 0;
-    }
-    shared || place == 0 || place > length
+    let stands = line != 0;
+    (!stands & (place != 0)) | (stands & (shared | (place == 0) | (place > length)))
 }
 
 // Is thread `j` of `n` misplaced? Of two threads that share a place one stands in the half of the ring before the other, so that

@@ -52,7 +52,9 @@ fn thread_ok(t: &[u8], i: usize, noted: &mut places::Noted) -> Option<u32>
 
 // ALL THREADS
 
-// Are all threads sound, and is the ready word that of their lines?
+// Are all threads sound, and is the ready word that of their lines? A function of its own: compiled into the door, what is noted would stand on
+// the stack below every operation.
+#[inline(never)]
 fn threads_ok(t: &[u8]) -> bool
     requires { Long t.now }
     ensures { (s : State) → said t.now ≡ s → Decides result t.now (Threads t.now s) }
