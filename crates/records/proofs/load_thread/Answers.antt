@@ -7,5 +7,5 @@ use Rattle.records.proofs.load_thread.Goals as goal
 
 pub returns : goal.returns
 returns c =
-    λ s e. rw (c.wait_of.ensures, c.word_at.ensures, c.from.ensures, c.word_at-2.ensures, c.word_at-3.ensures, c.word_at-4.ensures)
+    λ s e. rw (c.wait_of-wait.ensures, c.word_at-counter.ensures, c.from-outcome.ensures, c.word_at-turn.ensures, c.word_at-value.ensures, c.word_at-parcel.ensures)
     (sym (thread_read _ _) ∙ thread_told c.requires.1 e c.args.i c.requires.0)
