@@ -14,7 +14,7 @@ ghost use Rattle.lanes.specs.Kept.{Within, Kept};
 ghost use Rattle.accounts.specs.Accounts.{accounts_from, entered, events_here, handed, events_of, servable, Finds};
 
 use buffer::Buffer;
-use rules::{Decoded, Request};
+use rules::Request;
 
 mod charges;
 
@@ -45,16 +45,13 @@ fn enter(accounts: &mut [u64], request: Request, ran: usize, lock: u8)
 }
 
 // How many ticks are asked for at once; 0 where none are.
-fn at_once(decoded: Decoded) -> u32
+fn at_once(decoded: Option<Request>) -> u32
     ensures { result ≡ at_once (deed decoded) }
 {
-    let Decoded::Asked { request } = decoded else {
-        return 0;
-    };
-    let Request::Ticks { number } = request else {
-        return 0;
-    };
-    number
+    match decoded {
+        Some(Request::Ticks { number }) => number,
+        _ => 0,
+    }
 }
 
 // The record that starts at `at` is served. Whether it is accepted is given back.
@@ -70,7 +67,13 @@ fn serve_one(table: &mut [u8], input: &[u8], at: usize) -> bool
 }
 
 // One that asks for no ticks at once is entered if it is accepted.
-fn serve_request(table: &mut [u8], accounts: &mut [u64], input: &[u8], at: usize, decoded: Decoded)
+fn serve_request(
+    table: &mut [u8],
+    accounts: &mut [u64],
+    input: &[u8],
+    at: usize,
+    decoded: Option<Request>,
+)
     requires table_len { length table.old ≡ table_length printer }
     requires kept { Kept 1 accounts.old }
     requires request_length_in_bounds { (at + request_length ≤ length input.now) × (decoded ≡ decode_request (take request_length (drop at input.now))) × (at_once (deed decoded) ≡ 0) }
@@ -82,7 +85,7 @@ fn serve_request(table: &mut [u8], accounts: &mut [u64], input: &[u8], at: usize
     if !serve_one(table, input, at) {
         return;
     }
-    let Decoded::Asked { request } = decoded else {
+    let Some(request) = decoded else {
         return;
     };
     enter(accounts, request, ran, lock);

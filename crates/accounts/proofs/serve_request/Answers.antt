@@ -4,7 +4,7 @@ use lib.ListN.{take, drop}
 use Rattle.rules.specs.Board.{printer}
 use Rattle.rules.specs.Requests.{request_length, decode_request}
 use Rattle.rules.specs.Trace.{clean_area}
-use Rattle.rules.specs.declared.Decoded.TheVariants.{Asked}
+use Rattle.std.specs.Prelude.{Some}
 use Rattle.layout.proofs.Boards.{printer_long, said_printer}
 use Rattle.fairness.specs.Run.{other, deed_of, deed, at_once}
 use Rattle.accounts.specs.Accounts.{entered}
@@ -48,8 +48,8 @@ enter-requires c =
     let t = c.args.table.now in
     let r = take request_length (drop c.args.at c.args.input.now) in
     let accepts = sym served.ensures.accepted ∙ c.if-not-serve_one.false in
-    let q = c.in-Asked.request in
-    let asks : decode_request r ≡ Asked q = sym c.requires.request_length_in_bounds.1 ∙ c.in-Asked.is in
+    let q = c.in-Some.request in
+    let asks : decode_request r ≡ Some q = sym c.requires.request_length_in_bounds.1 ∙ c.in-Some.is in
     record {
       finds = rw (c.requires.kept.0, c.running-ran.ensures _ (said_printer _ c.requires.table_len)) (finds printer t r clean_area q asks accepts);
       within = c.requires.kept.1;
@@ -63,8 +63,8 @@ returns c =
     let ns = c.args.accounts.now in
     let accepts = sym served.ensures.accepted ∙ c.if-not-serve_one.false in
     let none : at_once (deed (decode_request r)) ≡ 0 = ap (λ x. at_once (deed x)) (sym c.requires.request_length_in_bounds.1) ∙ c.requires.request_length_in_bounds.2 in
-    let q = c.in-Asked.request in
-    let asks : deed (decode_request r) ≡ deed_of q = ap deed (sym c.requires.request_length_in_bounds.1 ∙ c.in-Asked.is) in
+    let q = c.in-Some.request in
+    let asks : deed (decode_request r) ≡ deed_of q = ap deed (sym c.requires.request_length_in_bounds.1 ∙ c.in-Some.is) in
     let ran = c.running-ran.ensures _ (said_printer _ c.requires.table_len) in
     let lock = c.lock-lock.ensures _ (said_printer _ c.requires.table_len) in
     record {
