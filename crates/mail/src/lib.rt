@@ -38,7 +38,7 @@ pub fn send(t: &mut [u8], i: u8, n: u32, parcel: u32) -> Answer
     ensures { Does t.old t.new result (λ s. do_send s i n parcel) }
 {
     let th = waiting::in_use(t, i)?;
-    let k = i as usize;
+    let k = usize::from(i);
     if k == records::running(t) {
         return Err(Refusal::BadOperation);
     }
@@ -60,7 +60,7 @@ pub fn send_from_interrupt(t: &mut [u8], i: u8, parcel: u32) -> Answer
     if records::lock(t) > 0 || th.full {
         return Err(Refusal::BadOperation);
     }
-    deliver(t, i as usize, parcel);
+    deliver(t, usize::from(i), parcel);
     waiting::accept(t, 0)
 }
 

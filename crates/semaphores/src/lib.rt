@@ -27,7 +27,7 @@ fn in_use(t: &[u8], k: u8) -> Result<Sem, Refusal>
     ensures semaphore { (s : State) → said t.now ≡ s → result ≡ (if no_sem s k then Err BadSemaphore else Ok (sem_at s.sems k)) }
     ensures on_board { OnOk result (HasSem t.now k) }
 {
-    let j = k as usize;
+    let j = usize::from(k);
     if j >= boards::semaphores(t) {
         return Err(Refusal::BadSemaphore);
     }
@@ -54,7 +54,7 @@ pub fn make(t: &mut [u8], k: u8, n: u32) -> Answer
     requires { Serves t.old }
     ensures { Does t.old t.new result (λ s. do_make s k n) }
 {
-    let j = k as usize;
+    let j = usize::from(k);
     if j >= boards::semaphores(t) || records::load_sem(t, j).used {
         return Err(Refusal::BadSemaphore);
     }
@@ -77,7 +77,7 @@ pub fn drop_semaphore(t: &mut [u8], k: u8) -> Answer
     waiting::serve(t, n, line, Outcome::Failed);
     records::set_sem(
         t,
-        k as usize,
+        usize::from(k),
         Sem {
             used: false,
             count: 0,
@@ -97,7 +97,7 @@ pub fn pend(t: &mut [u8], k: u8, n: u32) -> Answer
     let e = in_use(t, k)?;
     if e.count > 0 {
         let left = e.count - 1;
-        set_count(t, k as usize, left);
+        set_count(t, usize::from(k), left);
         return waiting::accept(t, u32::from(left));
     }
     let counter = waiting::wait_counter(n);
@@ -138,7 +138,7 @@ pub fn post(t: &mut [u8], k: u8, n: u32) -> Answer
         return Err(Refusal::BadOperation);
     }
     waiting::serve(t, served as u8, line, Outcome::Done);
-    set_count(t, k as usize, e.count + over as u8);
+    set_count(t, usize::from(k), e.count + over as u8);
     waiting::accept(t, 0)
 }
 

@@ -34,7 +34,7 @@ pub fn delete_thread(t: &mut [u8], i: u8)
     requires { HasThread t.old i × Whole t.old }
     ensures { Becomes t.old t.new (on_threads (deleted i)) }
 {
-    let k = i as usize;
+    let k = usize::from(i);
     let line = Line::Senders { thread: i };
     let n = lines::line_length(t, line);
     ready::moved(t, k, |t| records::free_thread(t, k));

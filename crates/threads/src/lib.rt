@@ -36,7 +36,7 @@ pub fn create(t: &mut [u8], i: u8, priority: u8, turn: u32) -> Answer
 {
     refusals::good_priority(priority)?;
     refusals::good_ticks(turn)?;
-    let k = i as usize;
+    let k = usize::from(i);
     if k >= boards::threads(t) || records::load_thread(t, k).used {
         return Err(Refusal::BadThread);
     }
@@ -67,7 +67,7 @@ pub fn suspend(t: &mut [u8], i: u8) -> Answer
         return Err(Refusal::BadState);
     }
     refusals::not_bound(t, i)?;
-    let k = i as usize;
+    let k = usize::from(i);
     if lines::is_ready(th) {
         changes::stop(t, k);
     } else {
@@ -86,7 +86,7 @@ pub fn resume(t: &mut [u8], i: u8) -> Answer
     if !th.suspended {
         return Err(Refusal::BadState);
     }
-    let k = i as usize;
+    let k = usize::from(i);
     if records::is_waiting(th.wait) {
         changes::edit_suspended(t, k, false);
     } else {
@@ -134,7 +134,7 @@ pub fn set_priority(t: &mut [u8], i: u8, priority: u8) -> Answer
     if i == 0 {
         return Err(Refusal::BadOperation);
     }
-    let k = i as usize;
+    let k = usize::from(i);
     if changes_line(th, priority) {
         changes::move_priority(t, k, priority);
     } else {
@@ -154,6 +154,6 @@ pub fn set_turn(t: &mut [u8], i: u8, turn: u32) -> Answer
     if i == 0 {
         return Err(Refusal::BadOperation);
     }
-    changes::edit_turn(t, i as usize, turn);
+    changes::edit_turn(t, usize::from(i), turn);
     waiting::accept(t, 0)
 }

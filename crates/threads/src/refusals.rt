@@ -32,7 +32,7 @@ pub fn not_bound(t: &[u8], i: u8) -> Result<(), Refusal>
     requires { Long t.now }
     ensures { (s : State) → said t.now ≡ s → result ≡ (if bound s i then Err BadOperation else Ok tt) }
 {
-    if i == 0 || (i as usize == records::running(t) && records::lock(t) > 0) {
+    if i == 0 || (usize::from(i) == records::running(t) && records::lock(t) > 0) {
         return Err(Refusal::BadOperation);
     }
     Ok(())

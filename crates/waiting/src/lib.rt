@@ -107,7 +107,7 @@ pub fn break_off(t: &mut [u8], i: u8, named: bool) -> Answer
     if !named {
         return Err(Refusal::BadState);
     }
-    end_wait(t, i as usize, Outcome::Failed, 0);
+    end_wait(t, usize::from(i), Outcome::Failed, 0);
     accept(t, 0)
 }
 

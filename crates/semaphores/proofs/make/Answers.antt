@@ -15,15 +15,15 @@ unfolding do_make
 returns-then-j-semaphores c = does_nothing c.requires.whole (λ s e.
     let n = (sized c.requires.whole.long e).sems in
     elim c.then-j-semaphores.branch [
-      | then-j-semaphores-via-then-j-semaphores w ↦ rw (le-leb (length s.sems) c.args.k (omega (arith, c.semaphores.ensures, n, w.if-j-semaphores.true)))
-      | then-j-semaphores-via-else-j-semaphores+then-load_sem w ↦ rw (lt-leb (length s.sems) c.args.k (omega (arith, c.semaphores.ensures, n, w.if-j-semaphores.false)), ← w.load_sem.ensures s e, w.if-load_sem.true)
+      | then-j-semaphores-via-then-j-semaphores w ↦ rw (le-leb (length s.sems) c.args.k (omega (arith, c.from-j.ensures, c.semaphores.ensures, n, w.if-j-semaphores.true)))
+      | then-j-semaphores-via-else-j-semaphores+then-load_sem w ↦ rw (lt-leb (length s.sems) c.args.k (omega (arith, c.from-j.ensures, c.semaphores.ensures, n, w.if-j-semaphores.false)), ← c.from-j.ensures, ← w.load_sem.ensures s e, w.if-load_sem.true)
     ])
 
 pub returns-then-n-gt-MOST_COUNT : goal.returns-then-n-gt-MOST_COUNT
 unfolding do_make
-returns-then-n-gt-MOST_COUNT c = does_nothing c.requires.whole (λ s e. rw (lt-leb (length s.sems) c.args.k (omega (arith, c.semaphores.ensures, (sized c.requires.whole.long e).sems)), ← c.load_sem.ensures s e, c.if-load_sem.false, lt-ltb most_count c.args.n c.if-n-gt-MOST_COUNT.true))
+returns-then-n-gt-MOST_COUNT c = does_nothing c.requires.whole (λ s e. rw (lt-leb (length s.sems) c.args.k (omega (arith, c.from-j.ensures, c.semaphores.ensures, (sized c.requires.whole.long e).sems)), ← c.from-j.ensures, ← c.load_sem.ensures s e, c.if-load_sem.false, lt-ltb most_count c.args.n c.if-n-gt-MOST_COUNT.true))
 
 pub returns : goal.returns
 unfolding do_make
 returns c =
-    then_does c.set_count.ensures c.accept.ensures (λ s h. rw (lt-leb (length s.sems) c.args.k (omega (arith, c.semaphores.ensures, (holds_sized h).sems)), ← c.load_sem.ensures s h.says, c.if-load_sem.false, le-ltb most_count c.args.n c.if-n-gt-MOST_COUNT.false))
+    then_does c.set_count.ensures c.accept.ensures (λ s h. rw (lt-leb (length s.sems) c.args.k (omega (arith, c.from-j.ensures, c.semaphores.ensures, (holds_sized h).sems)), ← c.from-j.ensures, ← c.load_sem.ensures s h.says, c.if-load_sem.false, le-ltb most_count c.args.n c.if-n-gt-MOST_COUNT.false))

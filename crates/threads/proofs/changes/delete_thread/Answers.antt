@@ -1,11 +1,7 @@
 -- `threads::changes::delete_thread` meets its contract: as many senders are served as stand in the line at first. Assumes nothing.
-use mathlib.Core.Path.{ap}
 use Rattle.std.proofs.Common.{rules}
 use Rattle.rules.specs.Threads.{deleted}
-use Rattle.rules.specs.Waiting.{serve}
-use Rattle.rules.specs.Lines.{senders, move}
-use Rattle.rules.specs.State.{free, with_threads}
-use Rattle.rules.specs.declared.Outcome.TheVariants.{Failed}
+use Rattle.rules.specs.State.{free}
 use Rattle.layout.proofs.Held.{◌⨾◌, becomes_as}
 use Rattle.threads.proofs.changes.delete_thread.Goals as goal
 
@@ -20,4 +16,4 @@ unfolding deleted
 returns c =
     let i = c.args.i in
     becomes_as (c.moved.ensures.table (λ x. free) (record { callable = λ t h w. search rules; changes = λ t u h w r. search rules }) ⨾ c.serve.ensures)
-    (λ s h. ap (λ n. with_threads (serve n (senders i) Failed (move i (λ x. free) s.threads)) s) (c.line_length-n.ensures s h.says))
+    (λ s h. rw (c.from-k.ensures, c.line_length-n.ensures s h.says))
