@@ -17,6 +17,7 @@ use marks::Line;
 use rules::{Answer, Outcome, Refusal, Sem, Wait};
 
 // "Semaphore count 0 to 99": the most of it, as a request's number.
+// A cast, since no constant calls `From`.
 const MOST_COUNT: u32 = rules::MOST_COUNT as u32;
 
 // SEMAPHORES BY NUMBER

@@ -88,8 +88,8 @@ fn object_ok(t: &[u8], i: usize, w: Wait, full: bool) -> bool
     match w {
         Wait::Nothing { .. } | Wait::Delay { .. } => true,
         Wait::Receive { .. } => !full,
-        Wait::Send { to, .. } => send_ok(t, i, to as usize),
-        Wait::Semaphore { on, .. } => pend_ok(t, on as usize),
+        Wait::Send { to, .. } => send_ok(t, i, usize::from(to)),
+        Wait::Semaphore { on, .. } => pend_ok(t, usize::from(on)),
     }
 }
 

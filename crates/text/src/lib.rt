@@ -67,10 +67,10 @@ pub fn put_line<const N: usize>(
     ensures upper_bound { length out.new ≤ length out.old + line_room }
 {
     put_field(out, number, b' ');
-    put_signed(out, code as i64);
+    put_signed(out, i64::from(code));
     out.push(b' ');
-    put_field(out, value as u64, b' ');
-    put_field(out, running as u64, b'\n');
+    put_field(out, u64::from(value), b' ');
+    put_field(out, u64::from(running), b'\n');
 }
 
 // The last line, of left-over bytes.
