@@ -1,5 +1,5 @@
 -- `accounts::serve_records` meets its contract: before turn j the table and the accounts are those after the first j records. Assumes nothing.
-use mathlib.Core.Path.{◌≡◌, refl, sym, ap, ◌∙◌}
+use mathlib.Core.Path.{refl, sym, ap, ◌∙◌}
 use Prim.Native.Nat.{◌*◌}
 use native.Mathlib.Omega.{arith}
 use lib.ListN.{take, drop}
@@ -9,7 +9,7 @@ use Rattle.rules.specs.Door.{door, table_after}
 use Rattle.rules.specs.Trace.{records, clean_area}
 use Rattle.fairness.specs.Doors.{run_of}
 use Rattle.lanes.specs.Kept.{of}
-use Rattle.accounts.specs.Accounts.{accounts_from, events_here, handed, events_of}
+use Rattle.accounts.specs.Accounts.{accounts_from, events_here, events_of}
 use Rattle.accounts.proofs.Accounts.{accounts_none, still_within}
 use Rattle.accounts.proofs.Served.{table_next, accounts_next, most_events}
 use Rattle.accounts.proofs.serve_records.Goals as goal
@@ -18,19 +18,12 @@ pub loop-j-init : goal.loop-j-init
 unfolding table_after records run_of
 loop-j-init c = (omega arith, refl, refl, refl, sym (accounts_none 0 c.args.accounts.now))
 
-pub serve_record-requires : goal.serve_record-requires
-serve_record-requires c =
+pub serve_record-requires-clause-kept : goal.serve_record-requires-clause-kept
+serve_record-requires-clause-kept c =
     let inv = c.loop-j.invariant in
     let j = c.loop-j.j in
-    let t = c.args.table.now in
-    let input = c.args.input.now in
-    let ns = c.args.accounts.now in
-    let within = still_within j c.args.k ns (events_of t j input) inv.0 (most_events t j input) c.requires.kept.1 in
-    let more = c.loop-j-test.true in record {
-      table_len = inv.1 ∙ c.requires.table_len;
-      kept = (inv.2 ∙ c.requires.kept.0, λ i. omega (arith, within i, ap (λ l. of l i) inv.4, more));
-      request_length_in_bounds = omega (arith, more, c.requires.request_length_in_bounds);
-    }
+    let within = still_within j c.args.k c.args.accounts.now (events_of c.args.table.now j c.args.input.now) inv.0 (most_events c.args.table.now j c.args.input.now) c.requires.kept.1 in
+    (inv.2 ∙ c.requires.kept.0, λ i. omega (arith, within i, ap (λ l. of l i) inv.4, c.loop-j-test.true))
 
 pub loop-j-preserved : goal.loop-j-preserved
 loop-j-preserved c =
@@ -49,20 +42,3 @@ loop-j-preserved c =
           ∙ (λ i. accounts_from 0 (inv.4 i) (events_here (inv.3 i) next))
           ∙ sym (accounts_next t input j ns),
     )
-
-pub shape_of-table : goal.shape_of-table
-shape_of-table c = c.loop-j.invariant.1
-
-pub shape_of-accounts : goal.shape_of-accounts
-shape_of-accounts c = c.loop-j.invariant.2
-
-pub returns : goal.returns
-returns c =
-    let inv = c.loop-j.invariant in
-    let all : c.loop-j.j ≡ c.args.k = omega (arith, inv.0, c.loop-j-test.false) in
-    let t = c.args.table.now in
-    let input = c.args.input.now in
-    record {
-      table = inv.3 ∙ ap (λ k. table_after printer t (handed k input)) all;
-      accounts = inv.4 ∙ ap (λ k. accounts_from 0 c.args.accounts.now (events_of t k input)) all;
-    }

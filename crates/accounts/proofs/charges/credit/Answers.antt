@@ -4,9 +4,9 @@ use mathlib.Core.Path.{sym, ◌∙◌}
 use native.Mathlib.Omega.{arith}
 use Rattle.rules.specs.Board.{printer}
 use Rattle.rules.specs.Table.{decode}
-use Rattle.layout.proofs.Boards.{printer_long, said_printer}
+use Rattle.layout.proofs.Boards.{said_printer}
 use Rattle.accounts.proofs.Leapt.{more_as}
-use Rattle.accounts.proofs.Credits.{none_credited, own_share, one_credited, rank_share}
+use Rattle.accounts.proofs.Credits.{none_credited, one_credited, rank_share}
 use Rattle.accounts.proofs.charges.credit.Goals as goal
 
 pub returns-then-lock-ne0 : goal.returns-then-lock-ne0
@@ -14,18 +14,10 @@ returns-then-lock-ne0 c =
     let ts = (decode printer c.args.t.now).threads in
     none_credited ts c.args.ran c.args.lock c.args.far c.args.rounds c.if-lock-ne0.true c.args.accounts.now
 
-pub overflow_add-accounts : goal.overflow_add-accounts
-overflow_add-accounts c =
-    let ts = (decode printer c.args.t.now).threads in
-    record { fits = omega (arith, own_share ts c.args.ran c.args.lock c.args.far c.args.rounds c.if-lock-ne0.false c.if-rounds-eq0.true, c.requires.fits c.args.ran) }
-
 pub returns-then-rounds-eq0 : goal.returns-then-rounds-eq0
 returns-then-rounds-eq0 c =
     let ts = (decode printer c.args.t.now).threads in
     one_credited ts c.args.ran c.args.lock c.args.far c.args.rounds c.if-lock-ne0.false c.if-rounds-eq0.true c.args.accounts.now (omega (arith, c.requires.ran_lt_threads.0, c.requires.ran_lt_threads.1))
-
-pub load_thread-th-requires : goal.load_thread-th-requires
-load_thread-th-requires c = (omega arith, printer_long c.requires.ran_lt_threads.2)
 
 pub credit_rank-requires : goal.credit_rank-requires
 credit_rank-requires c =

@@ -5,20 +5,10 @@ use Prim.Native.Nat.{◌+◌}
 use native.Mathlib.Omega.{arith}
 use lib.ListN.{set}
 use Rattle.rules.specs.Lines.{ready, in_line}
-use Rattle.layout.proofs.Boards.{printer_long, said_printer}
+use Rattle.layout.proofs.Boards.{said_printer}
 use Rattle.lanes.specs.Kept.{of}
 use Rattle.accounts.proofs.Credits.{turns_in, none_added}
 use Rattle.accounts.proofs.charges.credit_member.Goals as goal
-
-pub load_thread-th-requires : goal.load_thread-th-requires
-load_thread-th-requires c = (omega arith, printer_long c.requires.i_lt_threads.2)
-
-pub overflow_mul-accounts : goal.overflow_mul-accounts
-overflow_mul-accounts c =
-    let th = c.load_thread-th.result in
-    let m : in_line (ready c.args.priority) th ≡ true = sym c.in_rank.ensures ∙ c.if-in_rank.true in
-    let turns = turns_in c.args.priority c.args.rounds th _ (c.load_thread-th.ensures _ (said_printer _ c.requires.i_lt_threads.2)) m in
-    record { fits = omega (arith, turns, c.requires.i_bound) }
 
 pub overflow_add-accounts : goal.overflow_add-accounts
 overflow_add-accounts c =

@@ -6,15 +6,6 @@ use Rattle.layout.proofs.Held.{whole_holds}
 use Rattle.accounts.proofs.Leapt.{more_as, leap_most, share_told}
 use Rattle.accounts.proofs.charges.enter_leap.Goals as goal
 
-pub running-ran-requires : goal.running-ran-requires
-running-ran-requires c = c.requires.t_len.1.whole.long
-
-pub lock-lock-requires : goal.lock-lock-requires
-lock-lock-requires c = c.requires.t_len.1.whole.long
-
-pub leap-leapt-requires : goal.leap-leapt-requires
-leap-leapt-requires c = (c.requires.t_len.1, c.requires.t_len.2)
-
 pub credit-requires : goal.credit-requires
 credit-requires c =
     let s = said c.args.t.now in

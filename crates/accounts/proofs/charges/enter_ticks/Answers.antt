@@ -81,12 +81,6 @@ loop-left-preserved c =
       entered.auto.t ∙ inv.5,
     )
 
-pub shape_of-accounts : goal.shape_of-accounts
-shape_of-accounts c = c.loop-left.invariant.3
-
-pub shape_of-t : goal.shape_of-t
-shape_of-t c = c.loop-left.invariant.5
-
 pub returns : goal.returns
 returns c =
     let all : c.args.n - c.loop-left.left ≡ c.args.n = omega (arith, c.loop-left-test.false) in
