@@ -152,8 +152,11 @@ has_come (Ok n) s i e = record { stay = s; more = i }
 has_come (Err x) s i e = record { stay = s; more = omega (arith, ap length e) }
 
 -- none has come
-pub same_held : {held block : List ℕ} → Come held block 0 → block ≡ held
-same_held {held} {block} h = sym (take_all (length held) block (omega (arith, h.more))) ∙ h.stay
+pub none_came : {w : Way} {first bytes number n : ℕ} {held block said : List ℕ} → Come held block n → n ≡ 0 → Going w first bytes number held
+    → said ≡ refusal_text w (if ltb 0 (length block) then Some number else None) → Ended w first bytes number block said
+none_came {w} {first} {bytes} {number} {n} {held} {block} h z g p =
+    let same : held ≡ block = sym h.stay ∙ take_all (length held) block (omega (arith, h.more, z)) in
+    ended_going (subst (Going w first bytes number) same g) p
 
 -- the part is turned
 module _ {w : Way} {first bytes number n : ℕ} {held block : List ℕ} (h : Come held block n)
@@ -176,7 +179,7 @@ module _ {w : Way} {first bytes number n : ℕ} {held block : List ℕ} (h : Com
       rw (count, kept) grown
 
   -- what is said of the part where the run ends behind it
-  pub turned_end : {said : List ℕ} (stopped : Bool) → stopped ≡ stops w block → said ≡ refusal_text w (if stopped || ltb 0 (length block') then Some number' else None)
+  pub turned_end : {said : List ℕ} {stopped : Bool} → stopped ≡ stops w block → said ≡ refusal_text w (if stopped || ltb 0 (length block') then Some number' else None)
       → Ended w first (bytes + n) number' block' said
-  turned_end true e p = ended_stopped (turned_last (sym e)) p
-  turned_end false e p = ended_going (turned_on (sym e)) p
+  turned_end {stopped = true} e p = ended_stopped (turned_last (sym e)) p
+  turned_end {stopped = false} e p = ended_going (turned_on (sym e)) p

@@ -4,7 +4,9 @@
 #![tactic(auto)]
 
 ghost use Rattle.std.specs.Prelude.{if◌then◌else◌, ◌≤◌, ◌<◌, ◌^◌, ◌≡◌, ◌||◌, ltb, length, Some, None};
+ghost use Rattle.std.specs.Result.{is_err};
 ghost use Rattle.listing.specs.Listing.{refusal_text};
+ghost use Rattle.writer.specs.Places.{reached};
 ghost use Rattle.exchange.specs.Going.{Ended};
 
 use buffer::Buffer;
@@ -25,25 +27,25 @@ pub struct Done {
 }
 
 // The number of what is bad where no more is read: of what has stopped the text, or else of what is held.
-fn bad(number: u64, stopped: bool, block: &Buffer<BLOCK>) -> Option<u64>
-    ensures { result ≡ (if stopped || ltb 0 (length block.now) then Some number else None) }
+fn left_bad(turned: Result<u64, u64>, block: &Buffer<BLOCK>) -> Option<u64>
+    ensures { result ≡ (if is_err turned || ltb 0 (length block.now) then Some (reached turned) else None) }
 {
-    (stopped | (0 < block.len())).then_some(number)
+    match turned {
+        Ok(number) => (0 < block.len()).then_some(number),
+        Err(number) => Some(number),
+    }
 }
 
-// No more is read: the refusal stands ready, if there is one, and is said unless something failed.
-fn close(stdio: Streams, way: Way, bad: Option<u64>, said: bool, out: &mut Buffer<OUT>)
+// No more is read: the refusal stands ready, if there is one.
+fn close(way: Way, bad: Option<u64>, out: &mut Buffer<OUT>)
     ensures { out.new ≡ refusal_text way bad }
 {
     out.clear();
     writer::refuse(way, bad, out);
-    if said {
-        stdio.say(out.as_slice());
-    }
 }
 
-// The whole input is turned, part by part, where its first line or record has number `first`. A failure is said on standard error and ends it. What
-// is held at the end stays in the block, and the refusal in `out`.
+// The whole input is turned, part by part, where its first line or record has number `first`. A failure is said on standard error and ends it;
+// where there is none, the refusal is said. What is held at the end stays in the block, and the refusal in `out`.
 fn run_from(
     stdio: Streams,
     way: Way,
@@ -59,23 +61,32 @@ fn run_from(
     let mut number = first;
     for _ in 0..streams::READS {
         let come = stdio.read_behind(block);
-        let said = come.is_ok();
+        let ended = come.is_ok();
         let n = come.unwrap_or(0);
         if n == 0 {
-            close(stdio, way, bad(number, false, block), said, out);
+            close(way, left_bad(Ok(number), block), out);
+            if ended {
+                stdio.say(out.as_slice());
+            }
             return Done { bytes, number };
         }
         bytes += n as u64;
         out.clear();
         let turned = writer::turn(way, number, block, out);
-        number = turned.number;
+        let stopped = turned.is_err();
+        let bad = left_bad(turned, block);
+        let (Ok(next) | Err(next)) = turned;
+        number = next;
         let written = stdio.write(out.as_slice()).is_ok();
-        if turned.stopped | !written {
-            close(stdio, way, bad(number, turned.stopped, block), written, out);
+        if stopped | !written {
+            close(way, bad, out);
+            if written {
+                stdio.say(out.as_slice());
+            }
             return Done { bytes, number };
         }
     }
-    close(stdio, way, bad(number, false, block), false, out);
+    close(way, left_bad(Ok(number), block), out);
     Done { bytes, number }
 }
 

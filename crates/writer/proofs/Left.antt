@@ -44,9 +44,16 @@ module _ {w : Way} {come out out' : List ℕ} {done at : ℕ} {bad : Bool} (b : 
           let size : length come - at ≡ length (cut w come).rest = sym (length-drop at come) ∙ ap length (left_over_lem e) in
           ap (λ (k : ℕ). too_long w k) size ∙ ap (λ (x : Bool). x || too_long w (length (cut w come).rest)) (sym e ∙ b.stop)
 
-  -- what the code asks says that the text stops here, or that it does not
-  pub stopped_here : bad || too_long w (length come - at) ≡ true → come ≡ holds w come
-  stopped_here e = sym (holds_come w come (sym stops_known ∙ e))
+  -- what the code asks
+  module _ {bad' long : Bool} {at' n : ℕ} (same : bad' ≡ bad) (place : at' ≡ at) (size : n ≡ length come) (asked : long ≡ too_long w (n - at')) where
+    pub stops_by : bad' || long ≡ stops w come
+    stops_by = (λ i. same i || (asked ∙ (λ j. too_long w (size j - place j))) i) ∙ stops_known
 
-  pub went_on : bad || too_long w (length come - at) ≡ false → drop at come ≡ holds w come
-  went_on e = left_over_lem (or_false bad (too_long w (length come - at)) e).0 ∙ sym (holds_all w come (sym stops_known ∙ e))
+    pub stopped_here : bad' || long ≡ true → come ≡ holds w come
+    stopped_here e = sym (holds_come w come (sym stops_by ∙ e))
+
+    pub went_on : bad' || long ≡ false → drop at' come ≡ holds w come
+    went_on e =
+        ap (λ (k : ℕ). drop k come) place
+        ∙ left_over_lem (sym same ∙ (or_false bad' long e).0)
+        ∙ sym (holds_all w come (sym stops_by ∙ e))

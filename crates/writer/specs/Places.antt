@@ -1,5 +1,5 @@
 -- What the code promises of a block: how far its whole pieces are turned.
-use Rattle.std.specs.Prelude.{Bool, List, ◌++◌, ◌≡◌, ℕ, ◌+◌, ◌*◌, ◌≤◌, length, take}
+use Rattle.std.specs.Prelude.{Bool, List, ◌++◌, ◌≡◌, ℕ, ◌+◌, ◌*◌, ◌≤◌, length, take, Result, Ok, Err}
 use Rattle.listing.specs.Listing.{cut, input_of, bytes_of}
 use Rattle.listing.specs.Parts.{part_of, is_bad}
 use Rattle.listing.specs.declared.Way.{Way}
@@ -16,6 +16,11 @@ part_room n = 6 * n + listed_room
 -- the longest refusal: `bad record `, a number of 64 bits and the line feed
 abbrev pub refusal_room : ℕ
 refusal_room = 11 + 20 + 1
+
+-- how far something came, well or not
+abbrev pub reached : {A : Type 0} → Result A A → A
+reached (Ok x) = x
+reached (Err x) = x
 
 -- the whole pieces of a block are turned: how many are done, the place after them, and whether the next one is bad; what comes out of them is put
 -- behind what stood there

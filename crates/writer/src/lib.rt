@@ -3,9 +3,10 @@
 #![tactic(auto)]
 
 ghost use Rattle.std.specs.Prelude.{◌≡◌, ◌++◌, ◌+◌, ◌≤◌, ◌<◌, ◌^◌, length};
+ghost use Rattle.std.specs.Result.{is_err};
 ghost use Rattle.listing.specs.Listing.{bytes_of, bad_what, refusal_text};
 ghost use Rattle.listing.specs.Parts.{part_of, too_long, stops, holds};
-ghost use Rattle.writer.specs.Places.{part_room, refusal_room, Block};
+ghost use Rattle.writer.specs.Places.{part_room, refusal_room, reached, Block};
 
 use buffer::Buffer;
 use listing::Way;
@@ -18,25 +19,21 @@ mod reading;
 // The most characters of a line before its line feed.
 const LINE_MOST: usize = 40;
 
-// How far a block is turned: how many lines or records are done, the place after them, and whether what stands next is bad.
+// How far a block is turned: how many lines or records are done, and the place after them.
 #[derive(Clone, Copy)]
 pub struct Progress {
     pub done: usize,
     pub at: usize,
-    pub bad: bool,
 }
 
-// Where a text stands after a part: the number of the next line or record, and whether the text is stopped by what is bad.
-#[derive(Clone, Copy)]
-pub struct Turned {
-    pub number: u64,
-    pub stopped: bool,
-}
-
-// The whole lines or records of a block, up to the first that is bad, turned.
-fn turn_block<const N: usize>(way: Way, block: &[u8], out: &mut Buffer<N>) -> Progress
+// The whole lines or records of a block are turned: how far, as an error where the next one is bad.
+fn turn_block<const N: usize>(
+    way: Way,
+    block: &[u8],
+    out: &mut Buffer<N>,
+) -> Result<Progress, Progress>
     requires { length out.old + part_room (length block.now) ≤ N }
-    ensures { Block way block.now out.old out.new result.done result.at result.bad }
+    ensures { Block way block.now out.old out.new (reached result).done (reached result).at (is_err result) }
 {
     match way {
         Way::ToRecords => blocks::write_block(block, out),
@@ -55,29 +52,32 @@ fn is_too_long(way: Way, n: usize) -> bool
 }
 
 // The bytes of the block have come, and the next line or record has number `number`: those that are whole are turned, up to the first that is
-// bad, and what comes out of them is put behind what `out` has. What is left over stays in the block; where the text stops, all of it stays.
+// bad, and what comes out of them is put behind what `out` has. What is left over stays in the block, and the number of the next one is given back; as an
+// error where that one is bad and the text stops, and then all of the block stays.
 pub fn turn<const N: usize, const M: usize>(
     way: Way,
     number: u64,
     block: &mut Buffer<N>,
     out: &mut Buffer<M>,
-) -> Turned
+) -> Result<u64, u64>
     requires number_bound { number + length block.old < 2 ^ 64 }
     requires room { length out.old + part_room (length block.old) ≤ M }
-    ensures number { result.number ≡ number + length (part_of way block.old).done }
-    ensures few { result.number ≤ number + length block.old }
-    ensures stopped { result.stopped ≡ stops way block.old }
+    ensures number { reached result ≡ number + length (part_of way block.old).done }
+    ensures few { reached result ≤ number + length block.old }
+    ensures stopped { is_err result ≡ stops way block.old }
     ensures block { block.new ≡ holds way block.old }
     ensures out { out.new ≡ out.old ++ bytes_of way (part_of way block.old).done }
     ensures room { length out.new ≤ M }
 {
-    let part = turn_block(way, block.as_slice(), out);
+    let turned = turn_block(way, block.as_slice(), out);
+    let bad = turned.is_err();
+    let (Ok(part) | Err(part)) = turned;
     let number = number + part.done as u64;
-    let stopped = part.bad | is_too_long(way, block.len() - part.at);
-    if !stopped {
-        block.drop_front(part.at);
+    if bad | is_too_long(way, block.len() - part.at) {
+        return Err(number);
     }
-    Turned { number, stopped }
+    block.drop_front(part.at);
+    Ok(number)
 }
 
 // What is bad.
