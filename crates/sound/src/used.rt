@@ -93,7 +93,7 @@ fn object_ok(t: &[u8], i: usize, w: Wait, full: bool) -> bool
     }
 }
 
-// The whole record. Each test that fails returns at once: one expression of them takes 8 bytes of stack more, and 16 instructions for each thread.
+// The whole record. Each test that fails returns at once: one expression of them takes 8 bytes of stack more, and 14 instructions for each thread.
 #[tactic(auto, unfolding(rules::specs::Test::used_ok, crate::specs::Tested::outcome_ok))]
 pub fn used_ok(t: &[u8], i: usize, th: Thread) -> bool
     requires { Long t.now }
