@@ -42,6 +42,7 @@ struct Rank {
     charged: u64,
 }
 
+// Table and accounts stay two parameters: a struct of them was tried, and its ghost field can't hold `Sound`, which may have two proofs.
 fn rank_of(table: &[u8; TABLE], accounts: &[u64; THREADS], priority: u8) -> Rank
     requires sound { Sound (decode printer table.now) }
     requires within { Within 0 accounts.now }
