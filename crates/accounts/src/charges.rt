@@ -22,7 +22,7 @@ fn credit_member(accounts: &mut [u64], t: &[u8], i: usize, priority: u8, rounds:
 {
     let th = records::load_thread(t, i);
     if lines::in_rank(th, priority) {
-        accounts[i] += u64::from(rounds) * u64::from(th.turn);
+        accounts[i] += rounds as u64 * th.turn as u64;
     }
 }
 
@@ -47,7 +47,7 @@ fn credit(accounts: &mut [u64], t: &[u8], ran: usize, lock: u8, far: u32, rounds
         return;
     }
     if rounds == 0 {
-        accounts[ran] += u64::from(far);
+        accounts[ran] += far as u64;
         return;
     }
     let th = records::load_thread(t, ran);

@@ -38,7 +38,7 @@ fn enter(accounts: &mut [u64], request: Request, ran: usize, lock: u8)
             priority: _,
             turn: _,
         } => {
-            accounts[usize::from(thread)] = 0;
+            accounts[thread as usize] = 0;
         }
         _ => {}
     }
