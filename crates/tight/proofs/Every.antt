@@ -1,5 +1,7 @@
 -- Each public function's own promise is tight: it is a family of equations with what the table says, and a table says one state; every number
 -- is that of one line; a text that is put somewhere is put there. Assumes nothing.
+use Rattle.std.specs.Prelude.{ℕ, Result, Ok, Err, is_err}
+use mathlib.Core.Bool.{true≢false}
 use mathlib.Core.Path.{◌≡◌, refl, ap, sym, ◌∙◌}
 use native.Mathlib.Omega.{arith}
 use Rattle.laws.proofs.Split.{pass_together}
@@ -9,6 +11,7 @@ use Rattle.layout.proofs.Held.{whole_holds, becomes_one, whole_laid, laid_shows,
 use Rattle.marks.proofs.Named.{one_line}
 use Rattle.waiting.proofs.Doing.{does_one}
 use Rattle.places.specs.Rings.{Entries}
+use Rattle.writer.specs.Places.{reached}
 use Rattle.tight.specs.Each.{Each}
 
 -- what was lent first is the same, and nothing else was
@@ -18,6 +21,13 @@ first {y} e = λ j. (e j, y)
 -- what is noted is both lists
 noted_one : {x y : Entries} → x.lines ≡ y.lines → x.places ≡ y.places → x ≡ y
 noted_one e f = λ j. record { lines = e j; places = f j }
+
+-- an answer of two sides is its number, and which side it is
+same_result : (r r' : Result ℕ ℕ) → reached r ≡ reached r' → is_err r ≡ is_err r' → r ≡ r'
+same_result (Ok m) (Ok n) e k = ap Ok e
+same_result (Ok m) (Err n) e k = absurd (true≢false (sym k))
+same_result (Err m) (Ok n) e k = absurd (true≢false k)
+same_result (Err m) (Err n) e k = ap Err e
 
 pub each : Each
 each = record {
@@ -161,14 +171,23 @@ each = record {
   text_put_short = λ N f κs a z z' ws ws' h p q. (refl, first (p.0 ∙ sym q.0));
   text_put_signed = λ N f κs a z z' ws ws' h p q. (refl, first (p ∙ sym q));
   -- writer
-  writer_refuse = λ N f κs a z z' ws ws' h p q. (refl, λ j. ?);
-  writer_turn = λ N f M g κs a z z' ws ws' h p q. ?;
+  writer_refuse = λ N f κs a z z' ws ws' h p q. (refl, λ j. (ws.0, (ws.1.0, ((p.0 ∙ sym q.0) j, ws.1.1.1))));
+  writer_turn = λ N M f g κs a z z' ws ws' h p q. (
+    same_result z z' (p.0 ∙ sym q.0) (p.1.1.0 ∙ sym q.1.1.0),
+    λ j. (ws.0, (ws.1.0, ((p.1.1.1.0 ∙ sym q.1.1.1.0) j, ((p.1.1.1.1.0 ∙ sym q.1.1.1.1.0) j, ws.1.1.1.1)))),
+  );
   -- replay
-  replay_finish = λ N f κs a z z' ws ws' h p q. (refl, ?);
+  replay_finish = λ N f κs a z z' ws ws' h p q. (refl, λ j. (ws.0, ((p.0 ∙ sym q.0) j, ws.1.1)));
   replay_fresh = λ κs a z z' ws ws' h p q. (p ∙ sym q, refl);
-  replay_serve = λ N f M g κs a z z' ws ws' h p q. ?;
+  replay_serve = λ N M f g κs a z z' ws ws' h p q. (
+    p.1.0 ∙ sym q.1.0,
+    λ j. ((p.0.table ∙ sym q.0.table) j, (ws.1.0, ((p.1.1 ∙ sym q.1.1) j, ((p.0.lines ∙ sym q.0.lines) j, ws.1.1.1.1)))),
+  );
   -- accounts
-  accounts_serve = λ N f κs a z z' ws ws' h p q. ?;
+  accounts_serve = λ N f κs a z z' ws ws' h p q. (
+    p.0 ∙ sym q.0,
+    λ j. ((p.1.0 ∙ sym q.1.0) j, ((p.1.1.0 ∙ sym q.1.1.0) j, (ws.1.1.0, ((p.1.1.1 ∙ sym q.1.1.1) j, ws.1.1.1.1)))),
+  );
   -- lags
-  lags_put_report = λ N f κs a z z' ws ws' h p q. ?;
+  lags_put_report = λ N f κs a z z' ws ws' h p q. (refl, λ j. (ws.0, (ws.1.0, (ws.1.1.0, ((p.0 ∙ sym q.0) j, ws.1.1.1.1)))));
 }

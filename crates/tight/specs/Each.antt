@@ -169,11 +169,11 @@ pub record Each : Type 2 where
   pub text_put_signed : (N : ℕ) (f : Fits w64 N) → Determines (text.put_signed.Kinds.ps N f) (text.put_signed.Kinds.r N f) (text.put_signed.Reads.Pre N f) (text.put_signed.Reads.Post N f)
   -- writer
   pub writer_refuse : (N : ℕ) (f : Fits w64 N) → Determines (writer.refuse.Kinds.ps N f) (writer.refuse.Kinds.r N f) (writer.refuse.Reads.Pre N f) (writer.refuse.Reads.Post N f)
-  pub writer_turn : (N : ℕ) (f : Fits w64 N) (M : ℕ) (g : Fits w64 M) → Determines (writer.turn.Kinds.ps N f M g) (writer.turn.Kinds.r N f M g) (writer.turn.Reads.Pre N f M g) (writer.turn.Reads.Post N f M g)
+  pub writer_turn : (N M : ℕ) (f : Fits w64 N) (g : Fits w64 M) → Determines (writer.turn.Kinds.ps N M f g) (writer.turn.Kinds.r N M f g) (writer.turn.Reads.Pre N M f g) (writer.turn.Reads.Post N M f g)
   -- replay
   pub replay_finish : (N : ℕ) (f : Fits w64 N) → Determines (replay.finish.Kinds.ps N f) (replay.finish.Kinds.r N f) (replay.finish.Reads.Pre N f) (replay.finish.Reads.Post N f)
   pub replay_fresh : Determines replay.fresh.Kinds.ps replay.fresh.Kinds.r replay.fresh.Reads.Pre replay.fresh.Reads.Post
-  pub replay_serve : (N : ℕ) (f : Fits w64 N) (M : ℕ) (g : Fits w64 M) → Determines (replay.serve.Kinds.ps N f M g) (replay.serve.Kinds.r N f M g) (replay.serve.Reads.Pre N f M g) (replay.serve.Reads.Post N f M g)
+  pub replay_serve : (N M : ℕ) (f : Fits w64 N) (g : Fits w64 M) → Determines (replay.serve.Kinds.ps N M f g) (replay.serve.Kinds.r N M f g) (replay.serve.Reads.Pre N M f g) (replay.serve.Reads.Post N M f g)
   -- accounts
   pub accounts_serve : (N : ℕ) (f : Fits w64 N) → Determines (accounts.serve.Kinds.ps N f) (accounts.serve.Kinds.r N f) (accounts.serve.Reads.Pre N f) (accounts.serve.Reads.Post N f)
   -- lags
