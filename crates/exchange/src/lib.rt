@@ -45,7 +45,8 @@ fn close(way: Way, bad: Option<u64>, out: &mut Buffer<OUT>)
 }
 
 // The whole input is turned, part by part, where its first line or record has number `first`. A failure is said on standard error and ends it;
-// where there is none, the refusal is said. What is held at the end stays in the block, and the refusal in `out`.
+// where there is none, the refusal is said. What is held at the end stays in the block, and the refusal in `out`. The loop is of these two programs
+// alone, as that of `trace` is its own.
 fn run_from(
     stdio: Streams,
     way: Way,

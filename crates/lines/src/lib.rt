@@ -40,7 +40,7 @@ fn counted(power: u64, counts: bool) -> u64
     if counts { 2 * power } else { power }
 }
 
-// The count that a power of 2 stands for.
+// The count that a power of 2 stands for: at most 63, so that a cast is enough.
 fn exponent(power: u64) -> u8
     requires { 1 ≤ power }
     ensures { (n : ℕ) → power ≡ 2 ^ n → result ≡ n }

@@ -1,4 +1,4 @@
-// The program `list`: request records on standard input, their listing on standard output.
+// The program `list`: request records on standard input, their listing on standard output. It differs from `write` by its way alone.
 #![tactic(auto)]
 
 use buffer::Buffer;

@@ -72,6 +72,7 @@ fn empty_mailbox(t: &mut [u8], r: usize)
     requires { HasThread t.old r × Whole t.old }
     ensures { Becomes t.old t.new (on_threads (emptied r)) }
 {
+    // A cast: a thread's number fits in a byte.
     let line = Line::Senders { thread: r as u8 };
     if lines::line_length(t, line) == 0 {
         records::set_mail(t, r, false, 0);

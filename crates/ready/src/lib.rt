@@ -75,7 +75,8 @@ pub fn moved<F: FnOnce(&mut [u8])>(t: &mut [u8], i: usize, change: F) -> u8
 
 // THE THREAD THAT RUNS
 
-// Order 6: "find the top line by the count of leading zeros of that word". A word that is not 0 has its highest bit right below them.
+// Order 6: "find the top line by the count of leading zeros of that word". A word that is not 0 has its highest bit right below them. They are at
+// most 31, so that a cast is enough.
 pub fn highest(word: u32) -> u8
     requires { 1 ≤ word }
     ensures { (result ≤ top_priority) × (2 ^ result ≤ word) × (word < 2 ^ (result + 1)) }

@@ -50,7 +50,8 @@ fn serve_record<const M: usize>(
     text::put_line(out, number, code, value, running as u8);
 }
 
-// The whole records of `input` are served, and their lines, numbered from `first` on, go to `out`.
+// The whole records of `input` are served, and their lines, numbered from `first` on, go to `out`. The records are those that the trace reader
+// finds, which document 01 wants here.
 fn replay<const M: usize>(
     table: &mut [u8; rules::TABLE],
     input: &[u8],

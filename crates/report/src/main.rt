@@ -30,7 +30,8 @@ struct Reported {
     ended: bool,
 }
 
-// The whole input is replayed, part by part, where `first` records went before. A failure is said on standard error and ends it.
+// The whole input is replayed, part by part, where `first` records went before. A failure is said on standard error and ends it. The loop is this
+// program's own, as that of `trace` is.
 fn serve_all(
     stdio: Streams,
     table: &mut [u8; TABLE],

@@ -62,6 +62,7 @@ pub fn make(t: &mut [u8], k: u8, n: u32) -> Answer
     if n > MOST_COUNT {
         return Err(Refusal::BadOperation);
     }
+    // A cast: the test before it bounds the number, and `try_from` would have no refusal to give.
     set_count(t, j, n as u8);
     waiting::accept(t, 0)
 }
@@ -138,6 +139,7 @@ pub fn post(t: &mut [u8], k: u8, n: u32) -> Answer
     if too_many(e.count, n, over) {
         return Err(Refusal::BadOperation);
     }
+    // Casts: no more are served than a byte counts, and the test before bounds what is left over.
     waiting::serve(t, served as u8, line, Outcome::Done);
     set_count(t, usize::from(k), e.count + over as u8);
     waiting::accept(t, 0)

@@ -19,7 +19,7 @@ mod used;
 
 // ONE THREAD
 
-// The number of a thread's line, in a byte.
+// The number of a thread's line, in a byte, by a cast: who calls knows that it fits. A number, since lines are compared by the byte (`places`).
 fn number_of(th: Thread) -> u8
     requires { line_number (line th) < 256 }
     ensures { result ≡ line_number (line th) }

@@ -10,7 +10,7 @@ ghost use Rattle.text.specs.Rooms.{line_room, short_room};
 use buffer::Buffer;
 
 // The digits of a number at the front of a place that has room for every one: those before the last, then the last. How many they are is given back.
-// An array is filled and not the buffer: a function that is generic and calls itself was tried, and the check can't take its goal.
+// A digit fits in a byte, by a cast. An array is filled and not the buffer: a function that is generic and calls itself was tried, and the check can't take its goal.
 fn put_digits(digits: &mut [u8; 20], n: u64) -> usize
     ensures value { result ≡ length (decimal n) }
     ensures digits { take result digits.new ≡ decimal n }

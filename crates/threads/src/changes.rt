@@ -1,4 +1,5 @@
-// What operations on threads change, in place: one thread's record, between the line that it leaves and the line that it joins.
+// What operations on threads change, in place: one thread's record, between the line that it leaves and the line that it joins. What they share
+// stands in `ready::moved`; each names its own rule, in a line, so that no two are made one.
 ghost use Rattle.std.specs.Prelude.{false, ◌≡◌};
 ghost use Rattle.rules.specs.State.{State, at, edit, with_suspended, with_priority, with_turn};
 ghost use Rattle.rules.specs.Lines.{line, filled, move};

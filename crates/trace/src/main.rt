@@ -36,7 +36,8 @@ fn close(stdio: Streams, held: usize, ended: bool, lines: &mut Buffer<LINES>)
     }
 }
 
-// The whole input is traced, part by part. A failure is said on standard error and ends the trace.
+// The whole input is traced, part by part. A failure is said on standard error and ends the trace. Each of the three programs has this loop of
+// its own: what they do with a part and when they end differs, and a closure's contract would be the loop's invariant over again.
 fn run(stdio: Streams, table: &mut [u8; rules::TABLE], lines: &mut Buffer<LINES>) -> Served
     ensures { Ended table.old result.bytes result.number table.new lines.new }
 {

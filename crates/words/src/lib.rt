@@ -1,4 +1,5 @@
-// Words of four bytes, the lowest first, read and written in place, and numbers of eight, read.
+// Words of four bytes, the lowest first, read and written in place, and numbers of eight, read. A place is that of a field in the bytes of a table or
+// of a record, and says nothing of how far they are filled.
 #![tactic(auto)]
 
 ghost use Rattle.std.specs.Prelude.{◌≡◌, ◌+◌, ◌≤◌, ◌<◌, length};

@@ -1,4 +1,5 @@
-// The program `write`: a listing on standard input, its request records on standard output.
+// The program `write`: a listing on standard input, its request records on standard output. It differs from `list` by its way alone: both are one
+// call of what they share, and a program has a `main` of its own.
 #![tactic(auto)]
 
 use buffer::Buffer;

@@ -15,7 +15,8 @@ fn line_length(text: &[u8]) -> Option<usize>
     text.iter().position(|c| *c == b'\n')
 }
 
-// The records of a text's whole lines; an error where the next line is bad.
+// The records of a text's whole lines; an error where the next line is bad. Counted by hand are only the two numbers that are given back.
+// `enumerate` would ask for a bound on the first, and has no place for the second.
 pub fn write_block<const N: usize>(text: &[u8], out: &mut Buffer<N>) -> Result<Progress, Progress>
     requires { length out.old + part_room (length text.now) ≤ N }
     ensures { Block Way.ToRecords text.now out.old out.new (reached result).done (reached result).at (is_err result) }
@@ -33,7 +34,7 @@ pub fn write_block<const N: usize>(text: &[u8], out: &mut Buffer<N>) -> Result<P
     Ok(Progress { done, at })
 }
 
-// The lines of the whole records; an error where the next record is bad.
+// The lines of the whole records; an error where the next record is bad. The two numbers are counted as above.
 pub fn list_block<const N: usize>(records: &[u8], out: &mut Buffer<N>) -> Result<Progress, Progress>
     requires { length out.old + part_room (length records.now) ≤ N }
     ensures { Block Way.ToListing records.now out.old out.new (reached result).done (reached result).at (is_err result) }
