@@ -8,20 +8,21 @@ ghost use Rattle.layout.specs.Boards.{HasThread};
 ghost use Rattle.layout.specs.Held.{Whole, Becomes, on_threads};
 ghost use Rattle.waiting.specs.Does.{Serves, Does};
 
-use rules::{Answer, Outcome, Refusal, Reply, Wait};
+use rules::{Answer, MOST_LOCK, Outcome, Refusal, Reply, Wait};
 
 // THE LOCK
 
-// "Lock −5 at 255": the lock's byte goes no higher.
+// "Lock −5 at 255."
 #[tactic(auto, unfolding(rules::specs::Time::do_lock))]
 pub fn lock(t: &mut [u8]) -> Answer
     requires { Serves t.old }
     ensures { Does t.old t.new result do_lock }
 {
-    let n = records::lock(t)
-        .checked_add(1)
-        .ok_or(Refusal::BadOperation)?;
-    records::set_lock(t, n);
+    let n = records::lock(t);
+    if n >= MOST_LOCK {
+        return Err(Refusal::BadOperation);
+    }
+    records::set_lock(t, n + 1);
     waiting::accept(t, 0)
 }
 
