@@ -1,14 +1,14 @@
-//! The functions that a crate lets another one call: those of src/lib.rt and of its public modules, and those of private modules that
-//! a `pub use` passes on.
+//! The functions that a crate lets another one call: those of src/lib.rt and of its public modules, those of private modules that
+//! a `pub use` passes on, and the methods of the types among them.
 
 use std::collections::BTreeSet;
 use std::path::Path;
 use std::slice::from_ref;
 
-use crate::names::item;
+use crate::names::{identifier, item};
 use crate::{text, top};
 
-/// What a file says of functions that can be called from outside.
+/// What a file says of functions that can be called from outside. A method is named with its type, as `Buffer::push`.
 struct Module {
     functions: Vec<String>,
     public_modules: Vec<String>,
@@ -55,8 +55,15 @@ fn parsed(text: &str, file: &str) -> Module {
         public_modules: Vec::new(),
         passed_on: Vec::new(),
     };
+    // the type whose methods are at hand
+    let mut owner = None;
     let mut lines = text.lines();
     while let Some(line) = lines.next() {
+        if line.starts_with("impl") {
+            owner = methods_of(line);
+        } else if line.starts_with('}') {
+            owner = None;
+        }
         if line.starts_with("pub use ") {
             let mut whole = line.to_string();
             while !whole.contains(';') {
@@ -71,16 +78,51 @@ fn parsed(text: &str, file: &str) -> Module {
             Some(("fn", name)) => {
                 let is_outer = rest.len() == line.len();
                 assert!(
-                    is_outer,
-                    "src/{file}: {name} is public in a block, which is not read here"
+                    is_outer || owner.is_some(),
+                    "src/{file}: {name} is public in a block of no type, which is not read here"
                 );
-                module.functions.push(name);
+                let owner = owner.as_ref().filter(|_| !is_outer);
+                module.functions.push(match owner {
+                    Some(owner) => format!("{owner}::{name}"),
+                    None => name,
+                });
             }
             Some(("mod", name)) => module.public_modules.push(name),
             _ => {}
         }
     }
     module
+}
+
+/// The type whose own methods a line begins, as `impl<const N: usize> Buffer<N> {`. A trait's are none: they are public as the trait is.
+fn methods_of(line: &str) -> Option<String> {
+    let rest = line.strip_prefix("impl")?;
+    let rest = match rest.starts_with('<') {
+        true => behind_brackets(rest)?,
+        false => rest.strip_prefix(' ')?,
+    };
+    let rest = rest.trim_start();
+    let is_trait = rest.split_whitespace().any(|word| word == "for");
+    let name = identifier(rest);
+    (!is_trait && !name.is_empty()).then_some(name)
+}
+
+/// What stands behind the angle brackets that a text begins with. The arrow of a bound, as in `<F: Fn() -> u8>`, closes none.
+fn behind_brackets(text: &str) -> Option<&str> {
+    let mut depth = 0;
+    let mut before = ' ';
+    for (at, c) in text.char_indices() {
+        match c {
+            '<' => depth += 1,
+            '>' if before != '-' => depth -= 1,
+            _ => {}
+        }
+        if depth == 0 {
+            return Some(&text[at + 1..]);
+        }
+        before = c;
+    }
+    None
 }
 
 /// The paths of a `pub use`: one, or several between braces.
@@ -132,8 +174,8 @@ fn collect(path: &[String], public: &[String], source: Source, found: &mut BTree
     }
 }
 
-/// What one path of a `pub use` in a module lets others call: a function, or all of a module. A type is nothing here, and what is
-/// another crate's counts there.
+/// What one path of a `pub use` in a module lets others call: a function, the methods of a type, or all of a module. What is another
+/// crate's counts there.
 fn pass_on(
     path: &[String],
     public: &[String],
@@ -158,6 +200,12 @@ fn pass_on(
     let whole = [&home[..], from_ref(last)].concat();
     let named = [public, from_ref(&passed_on.name)].concat();
     let further = owner.passed_on.iter().find(|further| &further.name == last);
+    let of_type = format!("{last}::");
+    let methods = owner.functions.iter();
+    let methods = methods.filter_map(|name| name.strip_prefix(&of_type));
+    for method in methods {
+        found.insert([&named[..], &[method.to_string()]].concat().join("::"));
+    }
     if last == "*" {
         collect(&home, public, source, found);
     } else if owner.functions.contains(last) {
@@ -210,6 +258,53 @@ mod tests {
         assert_eq!(found(&[("lib.rt", root), private]), ["a", "b", "c", "d"]);
         let root = "mod n;\npub use n;\n";
         assert_eq!(found(&[("lib.rt", root), private]).len(), 4);
+    }
+
+    #[test]
+    fn a_public_method_counts_with_its_type_and_a_traits_does_not() {
+        let root = "\
+pub struct A<const N: usize> {
+    pub b: u8,
+}
+impl<const N: usize> Model for A<N> {
+    fn c()
+}
+impl<const N: usize> A<N> {
+    pub fn d(&self)
+    {
+    }
+    fn e(self)
+}
+impl From<u8> for A {
+    fn f(byte: u8)
+}
+impl<'a, F: Fn() -> u8> B<'a, F> {
+    pub const fn g()
+}
+impl C {
+    pub fn h()
+    {
+    }
+}
+pub fn i()
+";
+        assert_eq!(found(&[("lib.rt", root)]), ["A::d", "B::g", "C::h", "i"]);
+    }
+
+    #[test]
+    fn the_methods_of_a_type_that_is_passed_on_count() {
+        let private =
+            "pub struct T {\n}\nimpl T {\n    pub fn a()\n}\nimpl U {\n    pub fn b()\n}\n";
+        let files = [("lib.rt", "mod m;\npub use m::T;\n"), ("m.rt", private)];
+        assert_eq!(found(&files), ["T::a"]);
+        let files = [("lib.rt", "pub mod m;\n"), ("m.rt", private)];
+        assert_eq!(found(&files), ["m::T::a", "m::U::b"]);
+    }
+
+    #[test]
+    #[should_panic(expected = "no type")]
+    fn a_public_function_of_another_block_is_refused() {
+        found(&[("lib.rt", "mod m {\n    pub fn a()\n}\n")]);
     }
 
     #[test]
