@@ -1,6 +1,6 @@
 -- `accounts::serve_records` meets its contract: before turn j the table and the accounts are those after the first j records. Assumes nothing.
-use mathlib.Core.Path.{refl, sym, ap, ◌∙◌}
-use Prim.Native.Nat.{◌*◌}
+use mathlib.Core.Path.{◌≡◌, refl, sym, ap, ◌∙◌}
+use Prim.Native.Nat.{◌+◌, ◌-◌, ◌*◌}
 use native.Mathlib.Omega.{arith}
 use lib.ListN.{take, drop}
 use Rattle.rules.specs.Board.{printer}
@@ -16,14 +16,14 @@ use Rattle.accounts.proofs.serve_records.Goals as goal
 
 pub loop-j-init : goal.loop-j-init
 unfolding table_after records run_of
-loop-j-init c = (omega arith, refl, refl, refl, sym (accounts_none 0 c.args.accounts.now))
+loop-j-init c = (omega arith, refl, sym (accounts_none 0 c.args.accounts.now))
 
-pub serve_record-requires-clause-kept : goal.serve_record-requires-clause-kept
-serve_record-requires-clause-kept c =
+pub serve_record-requires : goal.serve_record-requires
+serve_record-requires c =
     let inv = c.loop-j.invariant in
     let j = c.loop-j.j in
-    let within = still_within j c.args.k c.args.accounts.now (events_of c.args.table.now j c.args.input.now) inv.0 (most_events c.args.table.now j c.args.input.now) c.requires.kept.1 in
-    (inv.2 ∙ c.requires.kept.0, λ i. omega (arith, within i, ap (λ l. of l i) inv.4, c.loop-j-test.true))
+    let within = still_within j c.args.k c.args.accounts.now (events_of c.args.table.now j c.args.input.now) inv.0 (most_events c.args.table.now j c.args.input.now) c.requires.within in
+    λ i. omega (arith, within i, ap (λ l. of l i) inv.2, c.loop-j-test.true)
 
 pub loop-j-preserved : goal.loop-j-preserved
 loop-j-preserved c =
@@ -32,13 +32,9 @@ loop-j-preserved c =
     let t = c.args.table.now in
     let input = c.args.input.now in
     let ns = c.args.accounts.now in
-    let next = take request_length (drop (j * request_length) input) in
-    let served = c.serve_record in (
+    let one : (j + 1) * request_length - j * request_length ≡ request_length = omega arith in
+    let served = c.serve_record.ensures in (
       omega (arith, c.loop-j-test.true),
-      served.auto.table ∙ inv.1,
-      served.auto.accounts ∙ inv.2,
-      served.ensures.table ∙ (λ i. (door printer (inv.3 i) next clean_area).table) ∙ sym (table_next t input j),
-      served.ensures.accounts
-          ∙ (λ i. accounts_from 0 (inv.4 i) (events_here (inv.3 i) next))
-          ∙ sym (accounts_next t input j ns),
+      served.table ∙ (λ i. (door printer (inv.1 i) (take (one i) (drop (j * request_length) input)) clean_area).table) ∙ sym (table_next t input j),
+      served.accounts ∙ (λ i. accounts_from 0 (inv.2 i) (events_here (inv.1 i) (take (one i) (drop (j * request_length) input)))) ∙ sym (accounts_next t input j ns),
     )
