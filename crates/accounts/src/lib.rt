@@ -120,8 +120,8 @@ fn serve_records(table: &mut [u8; TABLE], accounts: &mut [u64; THREADS], input: 
     ensures table { table.new ≡ table_after printer table.old (handed k input.now) }
     ensures accounts { accounts.new ≡ accounts_from 0 accounts.old (events_of table.old k input.now) }
 {
-    for j in 0..k {
-        serve_record(table, accounts, &input[j * REQUEST..(j + 1) * REQUEST]);
+    for record in input.chunks_exact(REQUEST).take(k) {
+        serve_record(table, accounts, record);
     }
 }
 
