@@ -1,10 +1,12 @@
--- What a record makes of the accounts, and one record more: the table, the events and the accounts after the first j + 1 records. Assumes nothing.
+-- What a record makes of the accounts, and what some make of the table and of them, one after the other. Assumes nothing.
 use mathlib.Core.Bool.{true, false}
 use mathlib.Core.Path.{◌≡◌, refl, sym, ap, ◌∙◌}
-use mathlib.Core.List.{List, [], ◌∷◌, ◌++◌, map, map-append, append-nil}
-use Prim.Native.Nat.{ℕ, suc, ◌+◌, ◌*◌, ◌≤◌}
+use mathlib.Core.List.{List, [], ◌∷◌, ◌++◌, map, map-append}
+use Prim.Native.Nat.{ℕ, suc, ◌+◌, ◌*◌, ◌≤◌, ◌<◌}
 use native.Mathlib.Omega.{arith}
-use lib.ListN.{length, take, drop, length-append}
+use native.Mathlib.Decide.{ℕ_discrete}
+use lib.ListN.{length, drop, length-append}
+use lib.Seq.{take_at, drop_at}
 use Rattle.rules.specs.Board.{printer, most_ticks}
 use Rattle.rules.specs.Table.{decode}
 use Rattle.rules.specs.Requests.{request_length, decode_request}
@@ -13,10 +15,10 @@ use Rattle.rules.specs.Trace.{records, clean_area, cleanly}
 use Rattle.parts.proofs.Whole.{records_add, records_length}
 use Rattle.fairness.specs.Run.{Event, Deed, deed, at_once, is_zero}
 use Rattle.fairness.specs.Doors.{event_of, counted_as, run_of}
-use Rattle.fairness.proofs.Doors.{table_follows, run_follows}
 use Rattle.leaps.specs.Charges.{tick_events}
 use Rattle.accounts.specs.Accounts.{accounts_from, entered, handed, events_here, events_of}
-use Rattle.accounts.proofs.Accounts.{accounts_append, not_entered, by_deed}
+use Rattle.lanes.specs.Kept.{of, Within}
+use Rattle.accounts.proofs.Accounts.{accounts_none, accounts_append, grown, not_entered, by_deed}
 use Rattle.accounts.proofs.Counted.{counted_most, awake_one, refused_one, asleep_ticks}
 
 -- ONE RECORD
@@ -41,31 +43,53 @@ module _ (t r ns : List ℕ) where
 pub handed_add : (j k : ℕ) (bytes : List ℕ) → handed (j + k) bytes ≡ handed j bytes ++ handed k (drop (j * request_length) bytes)
 handed_add j k bytes = ap (map cleanly) (records_add j k bytes) ∙ map-append cleanly (records j bytes) (records k (drop (j * request_length) bytes))
 
-module _ (t bytes : List ℕ) (j : ℕ) where
-  -- the record that comes next, and what the door makes of it
-  abbrev next : List ℕ
-  next = take request_length (drop (j * request_length) bytes)
+-- so many records at the front of some bytes are still to be served from a table and accounts on, which comes to table T and accounts A
+pub record Still (T A t ns : List ℕ) (k : ℕ) (bytes : List ℕ) : Type 0 where
+  pub whole : k * request_length ≤ length bytes
+  pub within : Within k ns
+  pub table : table_after printer t (handed k bytes) ≡ T
+  pub accounts : accounts_from 0 ns (events_of t k bytes) ≡ A
 
-  abbrev here : List ℕ
-  here = table_after printer t (handed j bytes)
+-- where they begin with a whole record, it is the first
+first_handed : (j k : ℕ) (bytes r rest : List ℕ) → j + 1 ≡ k → bytes ≡ r ++ rest → length r ≡ request_length → handed k bytes ≡ cleanly r ∷ handed j rest
+unfolding records
+first_handed j k bytes r rest more cut long =
+    let count : k ≡ suc j = omega arith in
+    (λ i. handed (count i) (cut i)) ∙ (λ i. cleanly (take_at r rest request_length long i) ∷ handed j (drop_at r rest request_length long i))
 
-  one : handed (j + 1) bytes ≡ handed j bytes ++ (cleanly next ∷ [])
-  unfolding records
-  one = handed_add j 1 bytes
+module _ {T A t ns bytes : List ℕ} {k : ℕ} (s : Still T A t ns k bytes) where
+  -- it is served
+  pub one_served : {j : ℕ} (r : List ℕ) {rest t' ns' : List ℕ} → j + 1 ≡ k → bytes ≡ r ++ rest → length r ≡ request_length
+      → t' ≡ (door printer t r clean_area).table → ns' ≡ accounts_from 0 ns (events_here t r) → Still T A t' ns' j rest
+  unfolding table_after run_of
+  one_served {j} r {rest} more cut long p q =
+      let first = first_handed j k bytes r rest more cut long in
+      record {
+        whole = omega (arith, more, s.whole, ap length cut, length-append r rest, long);
+        within = λ i. omega (arith, more, s.within i, ap (λ l. of l i) q, grown 0 ns (events_here t r) i, counted_most printer t (cleanly r));
+        table = ap (λ t. table_after printer t (handed j rest)) p ∙ sym (ap (table_after printer t) first) ∙ s.table;
+        accounts = (λ i. accounts_from 0 (q i) (events_of (p i) j rest)) ∙ sym (accounts_append 0 ns (events_here t r) (events_of (p 1) j rest))
+            ∙ sym (ap (λ hs. accounts_from 0 ns (run_of printer (door printer) t hs)) first) ∙ s.accounts;
+      }
 
-  pub table_next : table_after printer t (handed (j + 1) bytes) ≡ (door printer here next clean_area).table
-  unfolding table_after
-  table_next = ap (table_after printer t) one ∙ table_follows printer t (handed j bytes) (cleanly next ∷ [])
+  -- there is room for it
+  pub room_for_one : 1 ≤ k → Within 1 ns
+  room_for_one h i = omega (arith, h, s.within i)
 
-  pub accounts_next : (ns : List ℕ)
-      → accounts_from 0 ns (events_of t (j + 1) bytes)
-      ≡ accounts_from 0 (accounts_from 0 ns (events_of t j bytes)) (events_here here next)
-  unfolding run_of
-  accounts_next ns =
-      ap (λ hs. accounts_from 0 ns (run_of printer (door printer) t hs)) one
-      ∙ ap (accounts_from 0 ns) (run_follows printer t (handed j bytes) (cleanly next ∷ []))
-      ∙ accounts_append 0 ns (events_of t j bytes) (events_here here next ++ [])
-      ∙ ap (accounts_from 0 (accounts_from 0 ns (events_of t j bytes))) (append-nil (events_here here next))
+  -- none is left
+  none_left : (0 < k → length bytes < request_length) → k ≡ 0
+  none_left h = elim (ℕ_discrete k 0) [
+    | yes e ↦ e
+    | no n ↦ absurd (let l = h (omega arith) in omega (arith, s.whole))
+  ]
+
+  pub all_table : (0 < k → length bytes < request_length) → t ≡ T
+  unfolding table_after records
+  all_table h = ap (λ k. table_after printer t (handed k bytes)) (sym (none_left h)) ∙ s.table
+
+  pub all_accounts : (0 < k → length bytes < request_length) → ns ≡ A
+  unfolding run_of records
+  all_accounts h = sym (accounts_none 0 ns) ∙ ap (λ k. accounts_from 0 ns (events_of t k bytes)) (sym (none_left h)) ∙ s.accounts
 
 -- a call counts as at most the most ticks that are done at once
 most_run : (t : List ℕ) (hs : List Handed) → length (run_of printer (door printer) t hs) ≤ most_ticks * length hs

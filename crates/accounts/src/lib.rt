@@ -3,18 +3,18 @@
 // the accounts.
 #![tactic(auto)]
 
-ghost use Rattle.std.specs.Prelude.{◌≡◌, ◌+◌, ◌-◌, ◌*◌, ◌≤◌, length, take, drop};
-ghost use Rattle.rules.specs.Board.{printer, table_length};
+ghost use Rattle.std.specs.Prelude.{◌≡◌, ◌+◌, ◌-◌, ◌*◌, ◌≤◌, length, drop};
+ghost use Rattle.rules.specs.Board.{printer};
 ghost use Rattle.rules.specs.Requests.{request_length, decode_request};
 ghost use Rattle.rules.specs.Door.{door, table_after};
 ghost use Rattle.rules.specs.Trace.{clean_area};
 ghost use Rattle.fairness.specs.Run.{deed_of, deed, at_once, is_zero};
 ghost use Rattle.lanes.specs.Report.{most_records};
-ghost use Rattle.lanes.specs.Kept.{Within, Kept};
+ghost use Rattle.lanes.specs.Kept.{Within};
 ghost use Rattle.accounts.specs.Accounts.{accounts_from, entered, events_here, handed, events_of, servable, Finds};
 
 use buffer::Buffer;
-use rules::Request;
+use rules::{REQUEST, Request, TABLE, THREADS};
 
 mod charges;
 
@@ -22,8 +22,8 @@ mod charges;
 pub const MOST_RECORDS: usize = 1000000;
 
 // An accepted request is entered, where thread `ran` was running and the lock count was `lock`.
-fn enter(accounts: &mut [u64], request: Request, ran: usize, lock: u8)
-    requires finds { Finds (length accounts.old) (deed_of request) ran }
+fn enter(accounts: &mut [u64; THREADS], request: Request, ran: usize, lock: u8)
+    requires finds { Finds printer.threads (deed_of request) ran }
     requires within { Within 1 accounts.old }
     ensures { accounts.new ≡ entered accounts.old (deed_of request) ran lock }
 {
@@ -33,115 +33,95 @@ fn enter(accounts: &mut [u64], request: Request, ran: usize, lock: u8)
                 accounts[ran] += 1;
             }
         }
-        Request::Create {
-            thread,
-            priority: _,
-            turn: _,
-        } => {
-            accounts[thread as usize] = 0;
+        Request::Create { thread, .. } => {
+            accounts[usize::from(thread)] = 0;
         }
         _ => {}
     }
 }
 
 // How many ticks are asked for at once; 0 where none are.
-fn at_once(decoded: Option<Request>) -> u32
-    ensures { result ≡ at_once (deed decoded) }
+fn at_once(asked: Option<Request>) -> u32
+    ensures { result ≡ at_once (deed asked) }
 {
-    match decoded {
-        Some(Request::Ticks { number }) => number,
-        _ => 0,
-    }
+    let Some(Request::Ticks { number }) = asked else {
+        return 0;
+    };
+    number
 }
 
-// The record that starts at `at` is served. Whether it is accepted is given back.
-fn serve_one(table: &mut [u8], input: &[u8], at: usize) -> bool
-    requires table_len { length table.old ≡ table_length printer }
-    requires request_length_in_bounds { at + request_length ≤ length input.now }
-    ensures accepted { result ≡ is_zero (door printer table.old (take request_length (drop at input.now)) clean_area).code }
-    ensures table { table.new ≡ (door printer table.old (take request_length (drop at input.now)) clean_area).table }
+// The record is served. Whether it is accepted is given back.
+fn serve_one(table: &mut [u8; TABLE], record: &[u8]) -> bool
+    ensures accepted { result ≡ is_zero (door printer table.old «record».now clean_area).code }
+    ensures table { table.new ≡ (door printer table.old «record».now clean_area).table }
 {
     let mut area = [0u8; rules::AREA];
-    let code = kernel::speltmallet_door(table, &input[at..at + rules::REQUEST], &mut area);
+    let code = kernel::speltmallet_door(table, record, &mut area);
     code == 0
 }
 
 // One that asks for no ticks at once is entered if it is accepted.
 fn serve_request(
-    table: &mut [u8],
-    accounts: &mut [u64],
-    input: &[u8],
-    at: usize,
-    decoded: Option<Request>,
+    table: &mut [u8; TABLE],
+    accounts: &mut [u64; THREADS],
+    record: &[u8],
+    asked: Option<Request>,
 )
-    requires table_len { length table.old ≡ table_length printer }
-    requires kept { Kept 1 accounts.old }
-    requires request_length_in_bounds { (at + request_length ≤ length input.now) × (decoded ≡ decode_request (take request_length (drop at input.now))) × (at_once (deed decoded) ≡ 0) }
-    ensures table { table.new ≡ (door printer table.old (take request_length (drop at input.now)) clean_area).table }
-    ensures accounts { accounts.new ≡ accounts_from 0 accounts.old (events_here table.old (take request_length (drop at input.now))) }
+    requires within { Within 1 accounts.old }
+    requires asked { asked ≡ decode_request «record».now }
+    requires awake { at_once (deed asked) ≡ 0 }
+    ensures table { table.new ≡ (door printer table.old «record».now clean_area).table }
+    ensures accounts { accounts.new ≡ accounts_from 0 accounts.old (events_here table.old «record».now) }
 {
     let ran = records::running(table);
     let lock = records::lock(table);
-    if !serve_one(table, input, at) {
+    if !serve_one(table, record) {
         return;
     }
-    let Some(request) = decoded else {
+    let Some(request) = asked else {
         return;
     };
     enter(accounts, request, ran, lock);
 }
 
-// A copy of the table.
-fn copy_of(table: &[u8]) -> [u8; rules::TABLE]
-    requires { length table.now ≡ table_length printer }
-    ensures { result ≡ table.now }
-{
-    let mut copy = [0u8; rules::TABLE];
-    copy.copy_from_slice(table);
-    copy
-}
-
 // One that asks for `n` ticks at once, if it is accepted: they are done on a copy of the table that it found too, and entered.
-fn serve_ticks(table: &mut [u8], accounts: &mut [u64], input: &[u8], at: usize, n: u32)
-    requires table_len { length table.old ≡ table_length printer }
-    requires kept { Kept 1 accounts.old }
-    requires request_length_in_bounds { (at + request_length ≤ length input.now) × (at_once (deed (decode_request (take request_length (drop at input.now)))) ≡ n) × (1 ≤ n) }
-    ensures table { table.new ≡ (door printer table.old (take request_length (drop at input.now)) clean_area).table }
-    ensures accounts { accounts.new ≡ accounts_from 0 accounts.old (events_here table.old (take request_length (drop at input.now))) }
+fn serve_ticks(table: &mut [u8; TABLE], accounts: &mut [u64; THREADS], record: &[u8], n: u32)
+    requires within { Within 1 accounts.old }
+    requires ticks { at_once (deed (decode_request «record».now)) ≡ n }
+    requires some { 1 ≤ n }
+    ensures table { table.new ≡ (door printer table.old «record».now clean_area).table }
+    ensures accounts { accounts.new ≡ accounts_from 0 accounts.old (events_here table.old «record».now) }
 {
-    let mut before = copy_of(table);
-    if serve_one(table, input, at) {
+    let mut before = *table;
+    if serve_one(table, record) {
         charges::enter_ticks(accounts, &mut before, n);
     }
 }
 
-// The record that starts at `at` is served, and entered if it is accepted.
-fn serve_record(table: &mut [u8], accounts: &mut [u64], input: &[u8], at: usize)
-    requires table_len { length table.old ≡ table_length printer }
-    requires kept { Kept 1 accounts.old }
-    requires request_length_in_bounds { at + request_length ≤ length input.now }
-    ensures table { table.new ≡ (door printer table.old (take request_length (drop at input.now)) clean_area).table }
-    ensures accounts { accounts.new ≡ accounts_from 0 accounts.old (events_here table.old (take request_length (drop at input.now))) }
+// The record is served, and entered if it is accepted.
+fn serve_record(table: &mut [u8; TABLE], accounts: &mut [u64; THREADS], record: &[u8])
+    requires { Within 1 accounts.old }
+    ensures table { table.new ≡ (door printer table.old «record».now clean_area).table }
+    ensures accounts { accounts.new ≡ accounts_from 0 accounts.old (events_here table.old «record».now) }
 {
-    let decoded = request::decode(&input[at..at + rules::REQUEST]);
-    let n = at_once(decoded);
+    let asked = request::decode(record);
+    let n = at_once(asked);
     if n == 0 {
-        serve_request(table, accounts, input, at, decoded);
+        serve_request(table, accounts, record, asked);
     } else {
-        serve_ticks(table, accounts, input, at, n);
+        serve_ticks(table, accounts, record, n);
     }
 }
 
 // The first `k` records are served and entered.
-fn serve_records(table: &mut [u8], accounts: &mut [u64], input: &[u8], k: usize)
-    requires table_len { length table.old ≡ table_length printer }
-    requires kept { Kept k accounts.old }
-    requires request_length_in_bounds { k * request_length ≤ length input.now }
+fn serve_records(table: &mut [u8; TABLE], accounts: &mut [u64; THREADS], input: &[u8], k: usize)
+    requires within { Within k accounts.old }
+    requires whole { k * request_length ≤ length input.now }
     ensures table { table.new ≡ table_after printer table.old (handed k input.now) }
     ensures accounts { accounts.new ≡ accounts_from 0 accounts.old (events_of table.old k input.now) }
 {
-    for j in 0..k {
-        serve_record(table, accounts, input, j * rules::REQUEST);
+    for record in input.chunks_exact(REQUEST).take(k) {
+        serve_record(table, accounts, record);
     }
 }
 
@@ -150,14 +130,14 @@ fn servable(number: usize, n: usize) -> usize
     requires { number ≤ most_records }
     ensures { result ≡ servable number n }
 {
-    (n / rules::REQUEST).min(MOST_RECORDS - number)
+    (n / REQUEST).min(MOST_RECORDS - number)
 }
 
 // `number` records are served, and the bytes of the block have come: the whole records among them are served and entered, but no more than
 // 1,000,000 in all, and what is left over stays in the block. How many are served by then is given back.
 pub fn serve<const N: usize>(
-    table: &mut [u8; rules::TABLE],
-    accounts: &mut [u64; rules::THREADS],
+    table: &mut [u8; TABLE],
+    accounts: &mut [u64; THREADS],
     number: usize,
     block: &mut Buffer<N>,
 ) -> usize
@@ -170,6 +150,6 @@ pub fn serve<const N: usize>(
 {
     let k = servable(number, block.len());
     serve_records(table, accounts, block.as_slice(), k);
-    block.drop_front(k * rules::REQUEST);
+    block.drop_front(k * REQUEST);
     number + k
 }

@@ -53,7 +53,7 @@ fn rank_of(table: &[u8; TABLE], accounts: &[u64; THREADS], priority: u8) -> Rank
     let mut charged: u64 = 0;
     for (j, &own) in accounts.iter().enumerate() {
         let th = records::load_thread(table, j);
-        turns += counted(th, priority, th.turn as u64);
+        turns += counted(th, priority, u64::from(th.turn));
         charged += counted(th, priority, own);
     }
     Rank { turns, charged }
@@ -72,7 +72,7 @@ fn lag_of(table: &[u8; TABLE], accounts: &[u64; THREADS], i: usize) -> i64
         return 0;
     }
     let rank = rank_of(table, accounts, th.priority);
-    lag(accounts[i], rank.turns, th.turn as u64, rank.charged)
+    lag(accounts[i], rank.turns, u64::from(th.turn), rank.charged)
 }
 
 // The line of thread `i`, if it is in use.

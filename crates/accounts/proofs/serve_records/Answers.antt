@@ -1,44 +1,19 @@
--- `accounts::serve_records` meets its contract: before turn j the table and the accounts are those after the first j records. Assumes nothing.
-use mathlib.Core.Path.{refl, sym, ap, ◌∙◌}
-use Prim.Native.Nat.{◌*◌}
+-- `accounts::serve_records` meets its contract: what is still to be served comes to what all records do. Assumes nothing.
+use mathlib.Core.Path.{◌∙◌}
 use native.Mathlib.Omega.{arith}
-use lib.ListN.{take, drop}
-use Rattle.rules.specs.Board.{printer}
-use Rattle.rules.specs.Requests.{request_length}
-use Rattle.rules.specs.Door.{door, table_after}
-use Rattle.rules.specs.Trace.{records, clean_area}
-use Rattle.fairness.specs.Doors.{run_of}
-use Rattle.lanes.specs.Kept.{of}
-use Rattle.accounts.specs.Accounts.{accounts_from, events_here, events_of}
-use Rattle.accounts.proofs.Accounts.{accounts_none, still_within}
-use Rattle.accounts.proofs.Served.{table_next, accounts_next, most_events}
+use Rattle.accounts.proofs.Served.{one_served, all_table, all_accounts}
 use Rattle.accounts.proofs.serve_records.Goals as goal
 
-pub loop-j-init : goal.loop-j-init
-unfolding table_after records run_of
-loop-j-init c = (omega arith, refl, refl, refl, sym (accounts_none 0 c.args.accounts.now))
+pub loop-record-preserved : goal.loop-record-preserved
+loop-record-preserved c =
+    let steps = c.in-Some.ensures.steps in
+    let inv = c.loop-record.invariant in
+    let size = steps.0.0 ∙ inv.2 in
+    let served = c.serve_record.ensures in
+    (omega (arith, size), tt, size, one_served inv.3 _ steps.1 steps.0.1.0 (steps.0.1.1 ∙ inv.2) served.table served.accounts)
 
-pub serve_record-requires-clause-kept : goal.serve_record-requires-clause-kept
-serve_record-requires-clause-kept c =
-    let inv = c.loop-j.invariant in
-    let j = c.loop-j.j in
-    let within = still_within j c.args.k c.args.accounts.now (events_of c.args.table.now j c.args.input.now) inv.0 (most_events c.args.table.now j c.args.input.now) c.requires.kept.1 in
-    (inv.2 ∙ c.requires.kept.0, λ i. omega (arith, within i, ap (λ l. of l i) inv.4, c.loop-j-test.true))
+pub returns-clause-table : goal.returns-clause-table
+returns-clause-table c = all_table c.loop-record.invariant.3 (λ h. omega (arith, (c.in-None.ensures.steps h).1.0, c.loop-record.invariant.2))
 
-pub loop-j-preserved : goal.loop-j-preserved
-loop-j-preserved c =
-    let inv = c.loop-j.invariant in
-    let j = c.loop-j.j in
-    let t = c.args.table.now in
-    let input = c.args.input.now in
-    let ns = c.args.accounts.now in
-    let next = take request_length (drop (j * request_length) input) in
-    let served = c.serve_record in (
-      omega (arith, c.loop-j-test.true),
-      served.auto.table ∙ inv.1,
-      served.auto.accounts ∙ inv.2,
-      served.ensures.table ∙ (λ i. (door printer (inv.3 i) next clean_area).table) ∙ sym (table_next t input j),
-      served.ensures.accounts
-          ∙ (λ i. accounts_from 0 (inv.4 i) (events_here (inv.3 i) next))
-          ∙ sym (accounts_next t input j ns),
-    )
+pub returns-clause-accounts : goal.returns-clause-accounts
+returns-clause-accounts c = all_accounts c.loop-record.invariant.3 (λ h. omega (arith, (c.in-None.ensures.steps h).1.0, c.loop-record.invariant.2))

@@ -1,16 +1,19 @@
--- `accounts::serve_records` meets its contract: before turn j the table and the accounts are those after the first j records. Assumes nothing.
+-- `accounts::serve_records` meets its contract: what is still to be served comes to what all records do. Assumes nothing.
+use Rattle.std.specs.Iterator.Adapters.{take_source, take_count}
+use Rattle.std.specs.Slice.Iter.{chunks_exact_rest, chunks_exact_size}
 use mathlib.Core.Path.{◌≡◌}
-use Prim.Native.Nat.{◌-◌, ◌≤◌}
-use lib.ListN.{length}
 use Rattle.rules.specs.Board.{printer}
+use Rattle.rules.specs.Requests.{request_length}
 use Rattle.rules.specs.Door.{table_after}
 use Rattle.accounts.specs.Accounts.{accounts_from, handed, events_of}
+use Rattle.accounts.proofs.Served.{Still}
 use Rattle.accounts.proofs.serve_records.Given as goal
 
-abbrev pub invariant-loop-j : goal.invariant-loop-j
-invariant-loop-j l =
-    (l.j ≤ l.k) × (length l.table ≡ length l.initial.table) × (length l.accounts ≡ length l.initial.accounts)
-    × (l.table ≡ table_after printer l.initial.table (handed l.j l.input)) × (l.accounts ≡ accounts_from 0 l.initial.accounts (events_of l.initial.table l.j l.input))
-
-abbrev pub decreases-loop-j : goal.decreases-loop-j
-decreases-loop-j l = l.k - l.j
+abbrev pub invariant-loop-record : goal.invariant-loop-record
+invariant-loop-record l =
+    let left = l.record-iterator in
+    let records = take_source left in
+    goal.iterator-loop-record.can_next left
+    × goal.iterator-loop-record.is_finite left
+    × (chunks_exact_size records ≡ request_length)
+    × Still (table_after printer l.initial.table (handed l.k l.input)) (accounts_from 0 l.initial.accounts (events_of l.initial.table l.k l.input)) l.table l.accounts (take_count left) (chunks_exact_rest records)

@@ -34,7 +34,7 @@ lag-requires-clause-turn_le_most_ticks c =
     let own = c.load_thread-th.ensures _ (said_printer _ c.told-table) in
     let ready : is_ready (at s.threads i) ≡ true = ap is_ready (sym own) ∙ sym c.is_ready.ensures ∙ c.if-not-is_ready.false in
     let turn = (c.requires.sound.threads i (ready_used (at s.threads i) ready)).turn.1 in
-    (rw own turn, c.rank_of-rank.ensures.charged.0)
+    (rw (c.from.ensures, own) turn, c.rank_of-rank.ensures.charged.0)
 
 pub returns-clause-value : goal.returns-clause-value
 returns-clause-value c =
@@ -46,5 +46,6 @@ returns-clause-value c =
     let rank = c.rank_of-rank.ensures in
     let turns = rank.turns.1 ∙ ap (λ t. sum_turns t.priority s.threads) own in
     let charged = rank.charged.1 ∙ ap (λ t. sum_over t.priority f 0 s.threads) own in
+    let turn = c.from.ensures ∙ ap (λ t. t.turn) own in
     let same = to_z-of_z w64 c.lag.result (record { sfits = c.lag.type_inv }) in
-    same ∙ c.lag.ensures.value ∙ (λ j. sub_ℕ (f i * turns j) ((own j).turn * charged j)) ∙ lag_ready f s i ready
+    same ∙ c.lag.ensures.value ∙ (λ j. sub_ℕ (f i * turns j) (turn j * charged j)) ∙ lag_ready f s i ready

@@ -22,6 +22,15 @@ pub loop-j-init : goal.loop-j-init
 unfolding sum_over
 loop-j-init c = (omega arith, omega arith, omega arith, refl, refl)
 
+pub overflow_add-turns : goal.overflow_add-turns
+overflow_add-turns c =
+    let s = decode printer c.args.table.now in
+    let p = c.args.priority in
+    let j = c.loop-j.j in
+    let own = c.load_thread-th.ensures _ (said_printer _ c.told-table) in
+    let turned : c.counted-turns.result ≡ (if in_line (ready p) (at s.threads j) then (at s.threads j).turn else 0) = rw (c.from.ensures, own) at c.counted-turns.ensures in
+    record { fits = omega (arith, turned, c.loop-j-test.true, c.loop-j.invariant.1, turn_most s c.requires.sound p j) }
+
 pub loop-j-preserved : goal.loop-j-preserved
 loop-j-preserved c =
     let s = decode printer c.args.table.now in
@@ -29,7 +38,7 @@ loop-j-preserved c =
     let j = c.loop-j.j in
     let inv = c.loop-j.invariant in
     let own = c.load_thread-th.ensures _ (said_printer _ c.told-table) in
-    let turned : c.counted-turns.result ≡ (if in_line (ready p) (at s.threads j) then (at s.threads j).turn else 0) = rw own at c.counted-turns.ensures in
+    let turned : c.counted-turns.result ≡ (if in_line (ready p) (at s.threads j) then (at s.threads j).turn else 0) = rw (c.from.ensures, own) at c.counted-turns.ensures in
     let charged : c.counted-charged.result ≡ (if in_line (ready p) (at s.threads j) then of c.args.accounts.now j else 0) = rw own at c.counted-charged.ensures in
     let more : j < length s.threads = omega (arith, c.loop-j-test.true, (on_decode printer c.args.table.now).threads) in (
       omega (arith, c.loop-j-test.true),

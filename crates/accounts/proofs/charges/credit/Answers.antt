@@ -17,19 +17,16 @@ returns-then-lock-ne0 c =
 pub returns-then-rounds-eq0 : goal.returns-then-rounds-eq0
 returns-then-rounds-eq0 c =
     let ts = (decode printer c.args.t.now).threads in
-    one_credited ts c.args.ran c.args.lock c.args.far c.args.rounds c.if-lock-ne0.false c.if-rounds-eq0.true c.args.accounts.now (omega (arith, c.requires.ran_lt_threads.0, c.requires.ran_lt_threads.1))
+    rw c.from.ensures (one_credited ts c.args.ran c.args.lock c.args.far c.args.rounds c.if-lock-ne0.false c.if-rounds-eq0.true c.args.accounts.now (omega (arith, c.requires.ran_lt_threads, c.told-accounts)))
 
 pub credit_rank-requires : goal.credit_rank-requires
 credit_rank-requires c =
     let ts = (decode printer c.args.t.now).threads in
-    let share-of = rank_share ts c.args.ran c.args.lock c.args.far c.args.rounds c.if-lock-ne0.false c.if-rounds-eq0.false c.load_thread-th.result (c.load_thread-th.ensures _ (said_printer _ c.requires.ran_lt_threads.2)) in
-    record {
-      accounts_len = (c.requires.ran_lt_threads.1, c.requires.ran_lt_threads.2);
-      fits = λ i. omega (arith, share-of i, c.requires.fits i);
-    }
+    let share-of = rank_share ts c.args.ran c.args.lock c.args.far c.args.rounds c.if-lock-ne0.false c.if-rounds-eq0.false c.load_thread-th.result (c.load_thread-th.ensures _ (said_printer _ c.told-t)) in
+    λ i. omega (arith, share-of i, c.requires.fits i)
 
 pub returns : goal.returns
 returns c =
     let ts = (decode printer c.args.t.now).threads in
-    let share-of = rank_share ts c.args.ran c.args.lock c.args.far c.args.rounds c.if-lock-ne0.false c.if-rounds-eq0.false c.load_thread-th.result (c.load_thread-th.ensures _ (said_printer _ c.requires.ran_lt_threads.2)) in
+    let share-of = rank_share ts c.args.ran c.args.lock c.args.far c.args.rounds c.if-lock-ne0.false c.if-rounds-eq0.false c.load_thread-th.result (c.load_thread-th.ensures _ (said_printer _ c.told-t)) in
     c.credit_rank.ensures ∙ more_as _ _ 0 c.args.accounts.now (λ i. sym (share-of i))

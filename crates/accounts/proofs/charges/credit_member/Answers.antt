@@ -14,19 +14,19 @@ pub overflow_add-accounts : goal.overflow_add-accounts
 overflow_add-accounts c =
     let th = c.load_thread-th.result in
     let m : in_line (ready c.args.priority) th ≡ true = sym c.in_rank.ensures ∙ c.if-in_rank.true in
-    let turns = turns_in c.args.priority c.args.rounds th _ (c.load_thread-th.ensures _ (said_printer _ c.requires.i_lt_threads.2)) m in
-    record { fits = omega (arith, turns, c.requires.i_bound) }
+    let turns = turns_in c.args.priority c.args.rounds th _ (c.load_thread-th.ensures _ (said_printer _ c.told-t)) m in
+    rw (c.from.ensures, c.from-then-in_rank.ensures) (record { fits = omega (arith, turns, c.requires.fits) })
 
 pub returns-then-in_rank : goal.returns-then-in_rank
 returns-then-in_rank c =
     let th = c.load_thread-th.result in
     let m : in_line (ready c.args.priority) th ≡ true = sym c.in_rank.ensures ∙ c.if-in_rank.true in
-    let turns = turns_in c.args.priority c.args.rounds th _ (c.load_thread-th.ensures _ (said_printer _ c.requires.i_lt_threads.2)) m in
+    let turns = turns_in c.args.priority c.args.rounds th _ (c.load_thread-th.ensures _ (said_printer _ c.told-t)) m in
     let ns = c.args.accounts.now in
-    ap (λ n. set ns c.args.i (of ns c.args.i + n)) turns
+    rw (c.from.ensures, c.from-then-in_rank.ensures) (ap (λ n. set ns c.args.i (of ns c.args.i + n)) turns)
 
 pub returns-else-in_rank : goal.returns-else-in_rank
 returns-else-in_rank c =
     let th = c.load_thread-th.result in
     let m : in_line (ready c.args.priority) th ≡ false = sym c.in_rank.ensures ∙ c.if-in_rank.false in
-    none_added c.args.priority c.args.rounds th _ (c.load_thread-th.ensures _ (said_printer _ c.requires.i_lt_threads.2)) m c.args.accounts.now c.args.i
+    none_added c.args.priority c.args.rounds th _ (c.load_thread-th.ensures _ (said_printer _ c.told-t)) m c.args.accounts.now c.args.i

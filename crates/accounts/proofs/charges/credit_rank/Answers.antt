@@ -15,4 +15,4 @@ turns t p k i = turns_at p k (at (decode printer t).threads i)
 
 pub returns : goal.returns
 returns c =
-    up_to_all _ _ c.loop-i.i _ c.loop-i.invariant.1 (omega (arith, c.loop-i-test.false, c.requires.accounts_len.0))
+    up_to_all _ _ c.loop-i.i _ c.loop-i.invariant.1 (omega (arith, c.loop-i-test.false, c.told-accounts))

@@ -1,5 +1,5 @@
 -- `accounts::charges::enter_ticks` meets its contract: each leap enters some of the ticks that are left, and leaves a sound table. Assumes nothing.
-use mathlib.Core.Path.{◌≡◌, refl, ap, sym, ◌∙◌}
+use mathlib.Core.Path.{◌≡◌, ap, sym, ◌∙◌}
 use mathlib.Core.List.{List}
 use Prim.Native.Nat.{ℕ, ◌+◌, ◌-◌, ◌≤◌}
 use native.Mathlib.Omega.{arith}
@@ -32,26 +32,19 @@ pub loop-left-init : goal.loop-left-init
 loop-left-init c =
     let n = c.args.n in (
       omega arith,
-      c.requires.t_len.1,
-      becomes_same c.requires.t_len.1.whole (λ s h. ticks_none n s),
-      refl,
+      c.requires.serves,
+      becomes_same c.requires.serves.whole (λ s h. ticks_none n s),
       none_yet n (said c.args.t.now) c.args.accounts.now,
-      refl,
     )
 
-pub enter_leap-left-requires : goal.enter_leap-left-requires
-enter_leap-left-requires c =
+pub enter_leap-left-requires-clause-fits : goal.enter_leap-left-requires-clause-fits
+enter_leap-left-requires-clause-fits c =
     let inv = c.loop-left.invariant in
     let done = c.args.n - c.loop-left.left in
     let ns = c.args.accounts.now in
     let s₀ = said c.args.t.now in
-    let run = tick_events done s₀ in record {
-      t_len = (inv.5 ∙ c.requires.t_len.0, inv.1, c.loop-left-test.true);
-      accounts_len = (
-        inv.3 ∙ c.requires.accounts_len.0,
-        λ i. omega (arith, ap (λ l. of l i) inv.4, grown 0 ns run i, length_ticks done s₀, inv.0, c.requires.accounts_len.1 i),
-      );
-    }
+    let run = tick_events done s₀ in
+    λ i. omega (arith, ap (λ l. of l i) inv.3, grown 0 ns run i, length_ticks done s₀, inv.0, c.requires.fits i)
 
 pub overflow_sub-left : goal.overflow_sub-left
 overflow_sub-left c = (one_leap c.loop-left.invariant.1 c.loop-left-test.true c.enter_leap-left.ensures.far c.enter_leap-left.ensures.table).most
@@ -70,19 +63,17 @@ loop-left-preserved c =
     let s₀ = said c.args.t.now in
     let ns = c.args.accounts.now in
     let s = ticks (n - left) s₀ in
-    let h = inv.2.holds s₀ (whole_holds c.requires.t_len.1.whole) in
+    let h = inv.2.holds s₀ (whole_holds c.requires.serves.whole) in
     let all : n - left + (leap left s).far ≡ n - (left - far) = omega (arith, entered.ensures.far s h, inv.0, l.most) in (
       omega (arith, inv.0),
       serves_after far inv.1 l.ticks,
       becomes_as (inv.2 ⨾ l.ticks) (λ s h. ticks_add _ far s ∙ ap (λ k. ticks k s) (omega (arith, inv.0, l.most))),
-      entered.auto.accounts ∙ inv.3,
-      entered.ensures.accounts s h ∙ ap (credited s (leap left s)) inv.4 ∙ sym (by_leaps (n - left) left s₀ ns (rw h.says at inv.1.sound) c.loop-left-test.true)
+      entered.ensures.accounts s h ∙ ap (credited s (leap left s)) inv.3 ∙ sym (by_leaps (n - left) left s₀ ns (rw h.says at inv.1.sound) c.loop-left-test.true)
           ∙ ap (λ k. accounts_from 0 ns (tick_events k s₀)) all,
-      entered.auto.t ∙ inv.5,
     )
 
 pub returns : goal.returns
 returns c =
     let all : c.args.n - c.loop-left.left ≡ c.args.n = omega (arith, c.loop-left-test.false) in
-    let says = said_printer _ c.requires.t_len.0 in
-    c.loop-left.invariant.4 ∙ (λ j. accounts_from 0 c.args.accounts.now (tick_events (all j) (says j)))
+    let says = said_printer _ c.told-t in
+    c.loop-left.invariant.3 ∙ (λ j. accounts_from 0 c.args.accounts.now (tick_events (all j) (says j)))
