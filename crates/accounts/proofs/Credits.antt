@@ -16,8 +16,8 @@ use Rattle.rules.specs.Lines.{ready, in_line}
 use Rattle.rules.specs.declared.Thread.{Thread}
 use Rattle.leaps.specs.Charges.{turns_at, share}
 use Rattle.lanes.specs.Kept.{of}
-use Rattle.accounts.specs.Accounts.{more}
-use Rattle.accounts.proofs.Leapt.{by_more}
+use Rattle.accounts.specs.Accounts.{more, Fits}
+use Rattle.accounts.proofs.Leapt.{more_as, by_more}
 
 module _ (p k : ℕ) (t u : Thread) (e : t ≡ u) where
   pub turns_in : in_line (ready p) t ≡ true → k * t.turn ≡ turns_at p k u
@@ -81,6 +81,13 @@ module _ (ts : List Thread) (ran lock far rounds : ℕ) where
           | no k ↦ get_or-set_other ns ran i v 0 k ∙ omega (arith, other_share q i k)
         ])
 
-    pub rank_share : rounds ≢ 0 → (t : Thread) → t ≡ at ts ran → (i : ℕ) → share ts ran lock far rounds i ≡ turns_at t.priority rounds (at ts i)
-    unfolding share
-    rank_share q t e i = rw (eq-eqb lock 0 z, ne_eqb rounds 0 q, e)
+    module _ (q : rounds ≢ 0) (t : Thread) (e : t ≡ at ts ran) (ns : List ℕ) where
+      rank_share : (i : ℕ) → share ts ran lock far rounds i ≡ turns_at t.priority rounds (at ts i)
+      unfolding share
+      rank_share i = rw (eq-eqb lock 0 z, ne_eqb rounds 0 q, e)
+
+      pub rank_fits : Fits (share ts ran lock far rounds) ns → Fits (λ i. turns_at t.priority rounds (at ts i)) ns
+      rank_fits h i = omega (arith, rank_share i, h i)
+
+      pub rank_credited : more (λ i. turns_at t.priority rounds (at ts i)) 0 ns ≡ more (share ts ran lock far rounds) 0 ns
+      rank_credited = more_as _ _ 0 ns (λ i. sym (rank_share i))

@@ -1,6 +1,7 @@
 -- What a record makes of the accounts, and what some make of the table and of them, one after the other. Assumes nothing.
+use Rattle.std.specs.Prelude.{None}
 use mathlib.Core.Bool.{true, false}
-use mathlib.Core.Path.{◌≡◌, refl, sym, ap, ◌∙◌}
+use mathlib.Core.Path.{◌≡◌, refl, sym, ap, subst, ◌∙◌}
 use mathlib.Core.List.{List, [], ◌∷◌, ◌++◌, map, map-append}
 use Prim.Native.Nat.{ℕ, suc, ◌+◌, ◌*◌, ◌≤◌, ◌<◌}
 use native.Mathlib.Omega.{arith}
@@ -11,15 +12,20 @@ use Rattle.rules.specs.Board.{printer, most_ticks}
 use Rattle.rules.specs.Table.{decode}
 use Rattle.rules.specs.Requests.{request_length, decode_request}
 use Rattle.rules.specs.Door.{Handed, door, table_after}
+use Rattle.rules.specs.Sound.{SoundTable}
 use Rattle.rules.specs.Trace.{records, clean_area, cleanly}
 use Rattle.parts.proofs.Whole.{records_add, records_length}
-use Rattle.fairness.specs.Run.{Event, Deed, deed, at_once, is_zero}
+use Rattle.fairness.specs.Run.{Event, Deed, other, deed, at_once, is_zero}
 use Rattle.fairness.specs.Doors.{event_of, counted_as, run_of}
+use Rattle.layout.proofs.Boards.{printer_board}
+use Rattle.waiting.specs.Does.{Serves}
+use Rattle.waiting.proofs.Doing.{sound_serves}
 use Rattle.leaps.specs.Charges.{tick_events}
-use Rattle.accounts.specs.Accounts.{accounts_from, entered, handed, events_here, events_of}
+use Rattle.accounts.specs.Accounts.{Fits, accounts_from, entered, handed, events_here, events_of}
 use Rattle.lanes.specs.Kept.{of, Within}
 use Rattle.accounts.proofs.Accounts.{accounts_none, accounts_append, grown, not_entered, by_deed}
-use Rattle.accounts.proofs.Counted.{counted_most, awake_one, refused_one, asleep_ticks}
+use Rattle.accounts.proofs.Accepted.{on_sound}
+use Rattle.accounts.proofs.Counted.{counted_most, awake_one, refused_one, asleep_ticks, asleep_most}
 
 -- ONE RECORD
 
@@ -34,6 +40,20 @@ module _ (t r ns : List ℕ) where
     pub awake_record : at_once (deed (decode_request r)) ≡ 0 → (d : Deed) → deed (decode_request r) ≡ d
         → entered ns d (decode printer t).running (decode printer t).lock ≡ accounts_from 0 ns (events_here t r)
     awake_record none d e = sym (ap (accounts_from 0 ns) (awake_one printer t (cleanly r) none) ∙ by_deed called ns a d e)
+
+    -- a call whose record says nothing
+    pub unread_record : decode_request r ≡ None → ns ≡ accounts_from 0 ns (events_here t r)
+    unread_record e = awake_record (rw e refl) other (ap deed e)
+
+    -- its table is sound
+    pub can_serve : Serves t
+    can_serve =
+        let sound = (on_sound printer t r clean_area a).0 in
+        sound_serves t (subst (λ b. SoundTable b t) (sym (printer_board (length t) sound.long)) sound)
+
+    -- and its ticks at once are not too many
+    pub ticks_fit : (n : ℕ) → at_once (deed (decode_request r)) ≡ n → Within 1 ns → Fits (λ i. n) ns
+    ticks_fit n e w i = omega (arith, w i, asleep_most printer t (cleanly r) n e a)
 
     pub asleep_record : (n : ℕ) → at_once (deed (decode_request r)) ≡ n → 1 ≤ n → accounts_from 0 ns (tick_events n (decode printer t)) ≡ accounts_from 0 ns (events_here t r)
     asleep_record n e some = sym (ap (accounts_from 0 ns) (asleep_ticks printer t (cleanly r) n e some a))

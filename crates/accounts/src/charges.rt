@@ -15,6 +15,7 @@ ghost use Rattle.accounts.specs.Accounts.{accounts_from, more, credited, Fits};
 use rules::{TABLE, THREADS};
 
 // Thread `i` has `rounds` of its turns more, if it is ready at that priority.
+#[tactic(auto, using(crate::proofs::Credits::turns_in, crate::proofs::Credits::none_added, layout::proofs::Boards::said_printer))]
 fn credit_member(
     accounts: &mut [u64; THREADS],
     t: &[u8; TABLE],
@@ -33,6 +34,7 @@ fn credit_member(
 }
 
 // So has each thread that is ready at that priority.
+#[tactic(auto, using(crate::proofs::Credits::up_to_all))]
 fn credit_rank(accounts: &mut [u64; THREADS], t: &[u8; TABLE], priority: u8, rounds: u32)
     requires { Fits (λ i. turns_at priority rounds (at (decode printer t.now).threads i)) accounts.old }
     ensures { accounts.new ≡ more (λ i. turns_at priority rounds (at (decode printer t.now).threads i)) 0 accounts.old }
@@ -43,6 +45,7 @@ fn credit_rank(accounts: &mut [u64; THREADS], t: &[u8; TABLE], priority: u8, rou
 }
 
 // A leap of `far` ticks or of `rounds` whole rounds is entered, before which thread `ran` was running and the lock count was `lock`.
+#[tactic(auto, using(crate::proofs::Credits::none_credited, crate::proofs::Credits::one_credited))]
 fn credit(
     accounts: &mut [u64; THREADS],
     t: &[u8; TABLE],

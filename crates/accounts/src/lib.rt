@@ -61,6 +61,7 @@ fn serve_one(table: &mut [u8; TABLE], record: &[u8]) -> bool
 }
 
 // One that asks for no ticks at once is entered if it is accepted.
+#[tactic(auto, using(crate::proofs::Served::refused_record, crate::proofs::Served::unread_record, crate::proofs::Served::awake_record, crate::proofs::Accepted::finds, layout::proofs::Boards::said_printer))]
 fn serve_request(
     table: &mut [u8; TABLE],
     accounts: &mut [u64; THREADS],
@@ -85,6 +86,7 @@ fn serve_request(
 }
 
 // One that asks for `n` ticks at once, if it is accepted: they are done on a copy of the table that it found too, and entered.
+#[tactic(auto, using(crate::proofs::Served::refused_record, crate::proofs::Served::can_serve, crate::proofs::Served::ticks_fit, crate::proofs::Served::asleep_record))]
 fn serve_ticks(table: &mut [u8; TABLE], accounts: &mut [u64; THREADS], record: &[u8], n: u32)
     requires within { Within 1 accounts.old }
     requires ticks { at_once (deed (decode_request «record».now)) ≡ n }
