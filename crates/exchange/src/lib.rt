@@ -71,6 +71,7 @@ fn run_from(
             }
             return Done { bytes, number };
         }
+        // A cast: no `From` leads from a usize to it.
         bytes += n as u64;
         out.clear();
         let turned = writer::turn(way, number, block, out);

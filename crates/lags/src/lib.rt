@@ -94,6 +94,7 @@ fn put_lane<const N: usize>(
         return;
     }
     let own = lag_of(table, accounts, i);
+    // A cast: no `From` leads from a usize to it.
     text::put_field(out, i as u64, b' ');
     text::put_field(out, accounts[i], b' ');
     text::put_signed(out, own);

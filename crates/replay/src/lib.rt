@@ -47,6 +47,7 @@ fn serve_record<const M: usize>(
     let code = kernel::speltmallet_door(table, request, &mut area);
     let value = words::word_at(&area, rules::VALUE_FROM);
     let running = records::running(table);
+    // A cast: a thread's number fits in a byte.
     text::put_line(out, number, code, value, running as u8);
 }
 
@@ -89,6 +90,7 @@ pub fn serve<const N: usize, const M: usize>(
     let n = block.len();
     let records = n / rules::REQUEST;
     block.drop_front(records * rules::REQUEST);
+    // A cast: no `From` leads from a usize to it.
     number + records as u64
 }
 

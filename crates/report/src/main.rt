@@ -55,6 +55,7 @@ fn serve_all(
             ended = true;
             break;
         }
+        // A cast: no `From` leads from a usize to it.
         bytes += n as u64;
         number = accounts::serve(table, accounts, number, block);
         if rules::REQUEST <= block.len() {

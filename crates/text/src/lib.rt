@@ -81,5 +81,6 @@ pub fn put_short<const N: usize>(out: &mut Buffer<N>, n: usize)
     ensures upper_bound { length out.new ≤ length out.old + short_room }
 {
     out.extend(b"short ");
+    // A cast: no `From` leads from a usize to it.
     put_field(out, n as u64, b'\n');
 }

@@ -53,6 +53,7 @@ fn run(stdio: Streams, table: &mut [u8; rules::TABLE], lines: &mut Buffer<LINES>
             ended = true;
             break;
         }
+        // A cast: no `From` leads from a usize to it.
         bytes += n as u64;
         lines.clear();
         number = replay::serve(table, number, &mut block, lines);

@@ -41,7 +41,8 @@ fn turn_block<const N: usize>(
     }
 }
 
-// Is a line that has so many characters and has not ended too long already.
+// Is a line that has so many characters and has not ended too long already. Each way is told apart in a place of its own, by one match: a trait of
+// two ways would have as many.
 fn is_too_long(way: Way, n: usize) -> bool
     ensures { result ≡ too_long way n }
 {
@@ -72,6 +73,7 @@ pub fn turn<const N: usize, const M: usize>(
     let turned = turn_block(way, block.as_slice(), out);
     let bad = turned.is_err();
     let (Ok(part) | Err(part)) = turned;
+    // A cast: no `From` leads from a usize to it.
     let number = number + part.done as u64;
     if bad | is_too_long(way, block.len() - part.at) {
         return Err(number);
