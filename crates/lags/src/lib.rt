@@ -43,6 +43,7 @@ struct Rank {
 }
 
 // Table and accounts stay two parameters: a struct of them was tried, and its ghost field can't hold `Sound`, which may have two proofs.
+#[tactic(auto, using(layout::proofs::Boards::said_printer, leaps::proofs::Turns::turn_most), unfolding(lanes::specs::Lag::sum_over))]
 fn rank_of(table: &[u8; TABLE], accounts: &[u64; THREADS], priority: u8) -> Rank
     requires sound { Sound (decode printer table.now) }
     requires within { Within 0 accounts.now }
@@ -60,6 +61,7 @@ fn rank_of(table: &[u8; TABLE], accounts: &[u64; THREADS], priority: u8) -> Rank
 }
 
 // "A thread not ready at the end has lag 0."
+#[tactic(auto, using(crate::proofs::Turned::lag_unready, layout::proofs::Boards::said_printer))]
 fn lag_of(table: &[u8; TABLE], accounts: &[u64; THREADS], i: usize) -> i64
     requires i_lt_threads { i < printer.threads }
     requires sound { Sound (decode printer table.now) }
@@ -113,6 +115,7 @@ fn put_stopped<const N: usize>(stopped: bool, out: &mut Buffer<N>)
 }
 
 // The whole report goes to `out`.
+#[tactic(auto, unfolding(lanes::specs::Report::lane_lines))]
 pub fn put_report<const N: usize>(
     table: &[u8; TABLE],
     accounts: &[u64; THREADS],

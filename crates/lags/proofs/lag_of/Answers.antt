@@ -9,32 +9,16 @@ use mir.ValLaws.{to_z-of_z}
 use Rattle.rules.specs.Board.{printer}
 use Rattle.rules.specs.State.{at, is_ready}
 use Rattle.rules.specs.Table.{decode}
-use Rattle.laws.proofs.Lines.{ready_used}
 use Rattle.layout.proofs.Boards.{said_printer}
 use Rattle.text.proofs.Decimal.{decimal_room}
 use Rattle.fairness.specs.Run.{sum_turns}
 use Rattle.lanes.specs.Lag.{sum_over}
 use Rattle.lanes.specs.Kept.{of}
-use Rattle.lags.proofs.Turned.{lag_unready, lag_ready}
+use Rattle.lags.proofs.Turned.{lag_ready}
 use Rattle.lags.proofs.lag_of.Goals as goal
-
-pub returns-then-not-is_ready-clause-value : goal.returns-then-not-is_ready-clause-value
-returns-then-not-is_ready-clause-value c =
-    let s = decode printer c.args.table.now in
-    let own = c.load_thread-th.ensures _ (said_printer _ c.told-table) in
-    lag_unready (of c.args.accounts.now) s c.args.i (ap is_ready (sym own) ∙ sym c.is_ready.ensures ∙ c.if-not-is_ready.true)
 
 pub returns-then-not-is_ready-clause-room : goal.returns-then-not-is_ready-clause-room
 returns-then-not-is_ready-clause-room c = omega (arith, decimal_room 0 {n = 0} (omega arith))
-
-pub lag-requires-clause-turn_le_most_ticks : goal.lag-requires-clause-turn_le_most_ticks
-lag-requires-clause-turn_le_most_ticks c =
-    let i = c.args.i in
-    let s = decode printer c.args.table.now in
-    let own = c.load_thread-th.ensures _ (said_printer _ c.told-table) in
-    let ready : is_ready (at s.threads i) ≡ true = ap is_ready (sym own) ∙ sym c.is_ready.ensures ∙ c.if-not-is_ready.false in
-    let turn = (c.requires.sound.threads i (ready_used (at s.threads i) ready)).turn.1 in
-    (rw (c.from.ensures, own) turn, c.rank_of-rank.ensures.charged.0)
 
 pub returns-clause-value : goal.returns-clause-value
 returns-clause-value c =

@@ -1,6 +1,6 @@
 -- `lags::put_report` meets its contract: before turn i the lines of the first i threads stand behind the first one. Assumes nothing.
-use mathlib.Core.Path.{◌≡◌, sym, ap, ◌∙◌}
-use mathlib.Core.List.{◌++◌, append_assoc, append-nil}
+use mathlib.Core.Path.{◌≡◌, ap, ◌∙◌}
+use mathlib.Core.List.{◌++◌, append_assoc}
 use Prim.Native.Nat.{◌<◌}
 use native.Mathlib.Omega.{arith}
 use lib.ListN.{length, take}
@@ -12,10 +12,6 @@ use Rattle.lanes.specs.Report.{lane_lines}
 use Rattle.lanes.specs.Kept.{of}
 use Rattle.lags.proofs.Turned.{lines_turn}
 use Rattle.lags.proofs.put_report.Goals as goal
-
-pub loop-i-init : goal.loop-i-init
-unfolding lane_lines
-loop-i-init g c = (omega arith, omega arith, sym (append-nil c.put_stopped.new.out))
 
 pub loop-i-preserved : goal.loop-i-preserved
 loop-i-preserved g c =

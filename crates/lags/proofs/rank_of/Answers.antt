@@ -1,6 +1,6 @@
 -- `lags::rank_of` meets its contract: before turn j both sums are those over the first j threads, and none is above its bound. Assumes nothing.
 use Rattle.std.specs.Prelude.{if◌then◌else◌}
-use mathlib.Core.Path.{◌≡◌, refl, ap, ◌∙◌}
+use mathlib.Core.Path.{◌≡◌, ap, ◌∙◌}
 use Prim.Native.Nat.{◌<◌}
 use native.Mathlib.Omega.{arith}
 use lib.ListN.{length, take}
@@ -17,19 +17,6 @@ use Rattle.lanes.specs.Kept.{of}
 use Rattle.leaps.proofs.Turns.{turns_turn, turn_most}
 use Rattle.lags.proofs.Turned.{over_turn, counted_most}
 use Rattle.lags.proofs.rank_of.Goals as goal
-
-pub loop-j-init : goal.loop-j-init
-unfolding sum_over
-loop-j-init c = (omega arith, omega arith, omega arith, refl, refl)
-
-pub overflow_add-turns : goal.overflow_add-turns
-overflow_add-turns c =
-    let s = decode printer c.args.table.now in
-    let p = c.args.priority in
-    let j = c.loop-j.j in
-    let own = c.load_thread-th.ensures _ (said_printer _ c.told-table) in
-    let turned : c.counted-turns.result ≡ (if in_line (ready p) (at s.threads j) then (at s.threads j).turn else 0) = rw (c.from.ensures, own) at c.counted-turns.ensures in
-    record { fits = omega (arith, turned, c.loop-j-test.true, c.loop-j.invariant.1, turn_most s c.requires.sound p j) }
 
 pub loop-j-preserved : goal.loop-j-preserved
 loop-j-preserved c =
