@@ -13,7 +13,7 @@ use Rattle.rules.specs.declared.Reply.TheVariants.{Done, Blocked, NoneYet, Faile
 use Rattle.rules.specs.declared.Request.{Request}
 use Rattle.rules.specs.declared.Request.TheVariants as Ask
 
--- THE FIRST TABLE: "Err, in this order"
+-- THE FIRST TABLE: "Refused, in this order"
 
 abbrev pub order : Request → List Refusal
 order Ask.Yield = []
