@@ -1,7 +1,7 @@
 // The kernel: a request's step, and the one door that the firmware calls.
 #![tactic(auto)]
 
-ghost use Rattle.std.specs.Prelude.{◌&&◌, ◌≡◌, eqb, length};
+ghost use Rattle.std.specs.Prelude.{true, ◌&&◌, ◌≡◌, eqb, length};
 ghost use Rattle.rules.specs.Board.{printer};
 ghost use Rattle.rules.specs.Answers.{area_length};
 ghost use Rattle.rules.specs.Test.{sound_table};
@@ -65,6 +65,25 @@ fn can_serve(table: &[u8], answer: &[u8]) -> bool
     answer.len() == AREA && sound::sound(table)
 }
 
+// A call that can be served: the step of the request, and its answer in the area. A function of its own, to which the door leads on at its end: so what
+// the door's test takes of the stack is given back before, and no more is taken than here.
+#[inline(never)]
+#[tactic(auto, unfolding(rules::specs::Door::door, rules::specs::Door::serve_decoded))]
+fn serve(table: &mut [u8], request: &[u8], answer: &mut [u8]) -> i32
+    requires { (eqb (length answer.old) area_length && sound_table (board table.old) table.old) ≡ true }
+    ensures code { result ≡ (door printer table.old request.now answer.old).code }
+    ensures table { table.new ≡ (door printer table.old request.now answer.old).table }
+    ensures area { answer.new ≡ (door printer table.old request.now answer.old).area }
+{
+    let Some(asked) = request::decode(request) else {
+        answer::put_answer(answer, Err(Refusal::BadRecord));
+        return i32::from(Refusal::BadRecord);
+    };
+    let given = step(table, asked);
+    answer::put_answer(answer, given);
+    answer::code(given)
+}
+
 // The door: for every table, record and answer area, whatever their lengths and bytes. The code is given back too.
 #[tactic(auto, unfolding(rules::specs::Door::door, rules::specs::Door::serve_decoded))]
 pub fn speltmallet_door(table: &mut [u8], request: &[u8], answer: &mut [u8]) -> i32
@@ -75,11 +94,5 @@ pub fn speltmallet_door(table: &mut [u8], request: &[u8], answer: &mut [u8]) -> 
     if !can_serve(table, answer) {
         return i32::from(Refusal::BadTable);
     }
-    let Some(asked) = request::decode(request) else {
-        answer::put_answer(answer, Err(Refusal::BadRecord));
-        return i32::from(Refusal::BadRecord);
-    };
-    let given = step(table, asked);
-    answer::put_answer(answer, given);
-    answer::code(given)
+    serve(table, request, answer)
 }

@@ -6,7 +6,8 @@ ghost use Rattle.rules.specs.Board.{printer};
 ghost use Rattle.rules.specs.Door.{door};
 
 // The door: for every table, record and answer area, whatever their lengths and bytes. The code is given back too. The body stays a function of
-// its own, to which the exported name leads on: compiled into that, it takes 264 bytes of stack, and so it takes 248.
+// its own, to which the exported name leads on: compiled into that, it took 264 bytes of stack for 248. Theorems stand on the kernel's, since
+// no crate can stand on this one.
 #[inline(never)]
 #[unsafe(no_mangle)]
 pub extern "C" fn speltmallet_door(table: &mut [u8], request: &[u8], answer: &mut [u8]) -> i32

@@ -1,6 +1,6 @@
--- `kernel::speltmallet_door` meets its contract: a sound table can be served, and a step on it is what the door says. Assumes nothing.
+-- `kernel::serve` meets its contract: a sound table can be served, and a step on it is what the door says. Assumes nothing.
 use Rattle.std.specs.Prelude.{Some}
-use mathlib.Core.Bool.{Bool, true, ◌&&◌}
+use mathlib.Core.Bool.{true, ◌&&◌}
 use mathlib.Core.Path.{◌≡◌, sym, ap, ◌∙◌}
 use mathlib.Core.List.{List}
 use Prim.Native.Nat.{ℕ}
@@ -19,11 +19,11 @@ use Rattle.laws.proofs.Split.{and_true}
 use Rattle.laws.proofs.Tested.{tested_table}
 use Rattle.layout.specs.Held.{board, said}
 use Rattle.layout.proofs.Held.{whole_holds}
-use Rattle.kernel.proofs.speltmallet_door.Goals as goal
+use Rattle.kernel.proofs.serve.Goals as goal
 
 -- a table that passes the test can be served
-can_be_served : (t a : List ℕ) {r : Bool} → r ≡ (eqb (length a) area_length && sound_table (board t) t) → r ≡ true → Serves t
-can_be_served t a p e = sound_serves t ((tested_table (board t) t).0 (and_true (eqb (length a) area_length) (sound_table (board t) t) (sym p ∙ e)).1)
+can_be_served : (t a : List ℕ) → (eqb (length a) area_length && sound_table (board t) t) ≡ true → Serves t
+can_be_served t a e = sound_serves t ((tested_table (board t) t).0 (and_true (eqb (length a) area_length) (sound_table (board t) t) e).1)
 
 -- what a step makes of it and answers is what the door says
 served : (t : List ℕ) (q : Request) {t' : List ℕ} {a : Answer} → Serves t → Does t t' a (λ s. step s q) → answered t' a ≡ serve_decoded (board t) t (Some q)
@@ -31,14 +31,14 @@ unfolding serve_decoded said
 served t q v d = let h = whole_holds v.whole in λ j. answered ((d.holds (said t) h).bytes j) (d.answer (said t) h j)
 
 pub step-given-requires : goal.step-given-requires
-step-given-requires c = can_be_served _ c.args.answer.now c.can_serve.ensures c.if-not-can_serve.false
+step-given-requires c = can_be_served _ c.args.answer.now c.requires
 
 pub returns : goal.returns
 unfolding door
 returns c =
-    let can = sym c.can_serve.ensures ∙ c.if-not-can_serve.false in
+    let can = c.requires in
     let asked = sym c.decode.ensures ∙ c.in-Some.is in
-    let d = served _ _ (can_be_served _ c.args.answer.now c.can_serve.ensures c.if-not-can_serve.false) c.step-given.ensures in
+    let d = served _ _ (can_be_served _ c.args.answer.now c.requires) c.step-given.ensures in
     let k = c.code in record {
       code = rw (can, asked) (to_z-of_z w32 k.result (record { sfits = k.type_inv }) ∙ k.ensures ∙ ap (λ x. x.code) d);
       table = rw (can, asked) (ap (λ x. x.table) d);
