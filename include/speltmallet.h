@@ -63,7 +63,7 @@ extern "C" {
  *
  * - The System V calling convention, with a stack pointer that is a multiple of 16 at the call: 16 bytes at once are stored on the
  *   stack by instructions that fault elsewhere. In C the compiler sees to both; an interrupt's entry in assembler has to.
- * - 248 bytes of stack below the caller's frame, return address and red zone among them. No call takes more, by the instructions of
+ * - 232 bytes of stack below the caller's frame, return address and red zone among them. No call takes more, by the instructions of
  *   the archive; it is read off them and not proved (docs/BENCH.md).
  * - The red zone: the archive keeps data in the 128 bytes below its stack pointer. An interrupt that is taken on the same stack
  *   overwrites them. On bare metal give every interrupt that can come during a call a stack of its own (an IST entry), those that
