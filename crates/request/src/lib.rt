@@ -17,6 +17,7 @@ pub struct Fields {
 }
 
 // The request that a record's fields ask; none where no operation has that number, or where a field that it does not use is not zero.
+#[inline(always)]
 #[tactic(auto, unfolding(rules::specs::Requests::request_of))]
 pub fn request_of(fields: Fields) -> Option<Request>
     ensures { result ≡ request_of fields.operation fields.object fields.priority fields.number fields.parcel }

@@ -51,3 +51,10 @@ decimal_room (suc k) {n} h =
       | yes small ↦ rw (length_one n small) (omega arith)
       | no large ↦ rw (length_more n (omega arith)) (omega (arith, decimal_room k {n = n / 10} (omega (arith, pow-suc 10 (suc k)))))
     ]
+
+-- two digits at the most
+pub two_digits : (n : ℕ) → n < 100 → 10 ≤ n → decimal n ≡ digit (n / 10) ∷ digit (n % 10) ∷ []
+two_digits n s h = decimal_more n h ∙ ap (λ (l : List ℕ). l ++ (digit (n % 10) ∷ [])) (decimal_one (n / 10) (omega arith))
+
+pub length_two : (n : ℕ) → n < 100 → 10 ≤ n → length (decimal n) ≡ 2
+length_two n s h = ap length (two_digits n s h)

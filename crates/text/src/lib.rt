@@ -25,11 +25,26 @@ fn put_digits(digits: &mut [u8; 20], n: u64) -> usize
     }
 }
 
+// A number of one digit or two, as most are that are printed: it needs no place but the buffer's own.
+fn put_small<const N: usize>(out: &mut Buffer<N>, n: u64)
+    requires { (n < 100) × (length out.old + length (decimal n) ≤ N) }
+    ensures { out.new ≡ out.old ++ decimal n }
+{
+    if n < 10 {
+        return out.push(b'0' + n as u8);
+    }
+    out.push(b'0' + (n / 10) as u8);
+    out.push(b'0' + (n % 10) as u8);
+}
+
 // A number in decimal. std's `Display` is no plainer here: it writes through a formatter that can fail, and its digits are another definition.
 pub fn put_number<const N: usize>(out: &mut Buffer<N>, n: u64)
     requires { length out.old + length (decimal n) ≤ N }
     ensures { out.new ≡ out.old ++ decimal n }
 {
+    if n < 100 {
+        return put_small(out, n);
+    }
     let mut digits = [0u8; 20];
     let end = put_digits(&mut digits, n);
     out.extend(&digits[..end]);

@@ -1,8 +1,7 @@
 -- The fields that an operation uses, asked of the table and never looked into; the number and the fields at the front of a text; and a record's line.
 -- Assumes nothing.
-use Rattle.std.specs.Prelude.{if◌then◌else◌, Option, None, Some, Result, Ok, Err, fold, is_some}
+use Rattle.std.specs.Prelude.{if◌then◌else◌, Option, None, Some, Result, Ok, Err, is_some}
 use Rattle.std.proofs.lemmas.Option.{none-some, same_Some}
-use Rattle.std.specs.List.{prefix_len}
 use Rattle.std.specs.Result.{OkIff, result_ok}
 use mathlib.Core.Path.{◌≡◌, refl, sym, ap, subst, ◌∙◌}
 use mathlib.Core.Bool.{Bool, true, false, ◌&&◌}
@@ -14,7 +13,8 @@ use Prim.Native.Nat.{ℕ, ◌/◌, ◌%◌, suc, ◌+◌, ◌*◌, ◌-◌, ◌�
 use native.Mathlib.Decide.{dec_lt}
 use native.Mathlib.Omega.{arith}
 use lib.Dec.{eqb}
-use lib.ListN.{length, get_or, take, drop, get_or-eq_default}
+use lib.ListN.{length, get_or, take, drop, drop_of_length-le, get_or-eq_default}
+use lib.Seq.{drop-cons}
 use lib.Pointwise.{pointwise}
 use denote.Ref.{Bor}
 use borrow.Author.Tests.{le-leb, lt-leb, le-ltb}
@@ -22,11 +22,12 @@ use Rattle.rules.specs.Table.{word_at, word_bytes}
 use Rattle.rules.specs.Requests.{Operation, operation_of, operations, kept, asked_by, request_of, decode_request, request_length}
 use Rattle.rules.specs.declared.Request.{Request}
 use Rattle.laws.proofs.Split.{is, isnt, test, clash}
-use Rattle.listing.specs.Line.{Front as Text, ◌and_then◌, is_digit, digits_from, number_from, at_most, spaced_from, field_from, fields_from, ended, record_of, most_byte, most_word, line_most, refused, line_of, line_text, field_text}
+use Rattle.listing.specs.Line.{Front as Text, ◌and_then◌, is_digit, digit_first, digits_from, number_from, at_most, spaced_from, field_from, fields_from, ended, record_of, most_byte, most_word, line_most, refused, line_of, line_text, field_text}
 use Rattle.text.specs.Text.{decimal}
 use Rattle.request.specs.Written.{record_bytes}
 use Rattle.listing.proofs.Requests.{parts_of}
-use Rattle.writer.specs.Lines.{uses_of, most_long, told, any_field, FieldRead, rest_of, fields_text}
+use Rattle.listing.proofs.Numbers.{digits_stop}
+use Rattle.writer.specs.Lines.{uses_of, too_large, told, any_field, FieldRead, rest_of, fields_text}
 use Rattle.writer.specs.declared.asks.Uses.{Uses}
 
 -- THE FIELDS OF AN OPERATION
@@ -110,49 +111,46 @@ no_uses (Some u) e = absurd (none-some _ e)
 
 -- A NUMBER AT THE FRONT OF A TEXT
 
-abbrev pub behind : ℕ → ℕ → ℕ
-behind n c = min (n * 10 + (c - 48)) most_long
+-- a number as it is told
+abbrev pub capped : Text → Text
+capped f = record { number = min f.number too_large; rest = f.rest }
 
-abbrev pub many : List ℕ → ℕ
-many t = prefix_len is_digit t
+pub digit_there : (t : List ℕ) (n : ℕ) → n < length t → digit_first (drop n t) ≡ is_digit (get_or t n 0)
+digit_there t n h = ap digit_first (drop-cons t n 0 h)
 
-pub many_long : (t : List ℕ) → length (take (many t) t) ≡ many t
-many_long [] = refl
-many_long (c ∷ cs) =
-    elim (test (is_digit c)) [
-      | is d ↦ let one : 1 + many cs ≡ suc (many cs) = omega arith in rw (d, one) (omega (arith, many_long cs))
-      | isnt d ↦ rw d refl
-    ]
+pub none_there : (t : List ℕ) (n : ℕ) → length t ≤ n → digit_first (drop n t) ≡ false
+none_there t n h = ap digit_first (drop_of_length-le t h)
 
-digits_read : (n m : ℕ) (t : List ℕ) → m ≡ min n most_long → (fold behind m (take (many t) t) ≡ min (digits_from n t).number most_long) × (drop (many t) t ≡ (digits_from n t).rest)
+same_capped : (m n : ℕ) (t : List ℕ) → min m too_large ≡ min n too_large → capped (digits_from m t) ≡ capped (digits_from n t)
 unfolding digits_from
-digits_read n m [] e = (e, refl)
-digits_read n m (c ∷ cs) e =
+same_capped m n [] e = λ i. record { number = e i; rest = [] }
+same_capped m n (c ∷ cs) e =
     elim (test (is_digit c)) [
-      | is d ↦ let one : 1 + many cs ≡ suc (many cs) = omega arith in rw (d, one) (digits_read (n * 10 + (c - 48)) (behind m c) cs (omega (arith, e)))
-      | isnt d ↦ rw d (e, refl)
+      | is d ↦ rw d (same_capped (m * 10 + (c - 48)) (n * 10 + (c - 48)) cs (omega arith))
+      | isnt d ↦ rw d (λ i. record { number = e i; rest = c ∷ cs })
     ]
 
-pub no_number : (t : List ℕ) → many t ≡ 0 → None ≡ told (number_from t)
-unfolding number_from
-no_number [] e = refl
-no_number (c ∷ cs) e =
-    elim (test (is_digit c)) [
-      | is d ↦ absurd (let l = (rw d at e) in omega arith)
-      | isnt d ↦ rw d refl
-    ]
+-- a turn of the loop takes a digit
+pub digit_taken : (m : ℕ) (t : List ℕ) (n : ℕ) → n < length t → is_digit (get_or t n 0) ≡ true
+    → capped (digits_from m (drop n t)) ≡ capped (digits_from (min (m * 10 + (get_or t n 0 - 48)) too_large) (drop (n + 1) t))
+unfolding digits_from
+digit_taken m t n h d =
+    let next : n + 1 ≡ suc n = omega arith in
+    rw (drop-cons t n 0 h, d, next)
+    (same_capped (m * 10 + (get_or t n 0 - 48)) (min (m * 10 + (get_or t n 0 - 48)) too_large) (drop (suc n) t) (omega arith))
 
-pub a_number : (t : List ℕ) → (many t ≡ 0 → ⊥) → Some (record { number = fold behind 0 (take (many t) t); rest = drop (many t) t }) ≡ told (number_from t)
+-- no digit: no number
+pub no_number : (t : List ℕ) → digit_first t ≡ false → None ≡ told (number_from t)
 unfolding number_from
-a_number [] h = absurd (h refl)
-a_number (c ∷ cs) h =
-    elim (test (is_digit c)) [
-      | is d ↦
-          let r = digits_read 0 0 (c ∷ cs) (omega arith) in
-          let there : number_from (c ∷ cs) ≡ Some (digits_from 0 (c ∷ cs)) = rw d refl in
-          (λ i. Some (record { number = r.0 i; rest = r.1 i })) ∙ sym (ap told there)
-      | isnt d ↦ absurd (h (rw d refl))
-    ]
+no_number t e = rw e refl
+
+pub a_number : (t : List ℕ) (m n : ℕ) → digit_first t ≡ true → digit_first (drop n t) ≡ false → m ≤ too_large
+    → capped (digits_from 0 t) ≡ capped (digits_from m (drop n t)) → Some (record { number = m; rest = drop n t }) ≡ told (number_from t)
+unfolding number_from
+a_number t m n b s v e =
+    let all : capped (digits_from 0 t) ≡ record { number = min m too_large; rest = drop n t } = e ∙ ap capped (digits_stop m (drop n t) s) in
+    let own : m ≡ min m too_large = omega (arith, v) in
+    rw b (ap Some ((λ j. record { number = own j; rest = drop n t }) ∙ sym all))
 
 -- A FIELD AT THE FRONT OF A TEXT
 
@@ -305,19 +303,19 @@ module _ (E : Type 0) (operation : ℕ) (t : List ℕ) (w : Uses) (k : Some w �
 no_large : (m : Option Text) (n : ℕ) (t : List ℕ) → Some (record { number = n; rest = t }) ≡ told m → most_byte < n → None ≡ (m and_then λ a. operation_of a.number and_then λ u. fields_from u a)
 no_large None n t e l = refl
 no_large (Some f) n t e l =
-    let number : n ≡ min f.number most_long = ap (λ (g : Text). g.number) (same_Some _ _ e) in
+    let number : n ≡ min f.number too_large = ap (λ (g : Text). g.number) (same_Some _ _ e) in
     rw (get_or-eq_default operations None {n = f.number} (omega (arith, number, l))) refl
 
 no_first : (m : Option Text) → None ≡ told m → None ≡ (m and_then λ a. operation_of a.number and_then λ u. fields_from u a)
 no_first None e = refl
-no_first (Some f) e = absurd (none-some (record { number = min f.number most_long; rest = f.rest }) e)
+no_first (Some f) e = absurd (none-some (record { number = min f.number too_large; rest = f.rest }) e)
 
 first : (m : Option Text) (n : ℕ) (t : List ℕ) → Some (record { number = n; rest = t }) ≡ told m → n ≤ most_byte → rest_of n t ≡ (m and_then λ a. operation_of a.number and_then λ u. fields_from u a)
 unfolding rest_of
 first None n t e l = absurd (none-some (record { number = n; rest = t }) (sym e))
 first (Some f) n t e l =
     let same = same_Some _ _ e in
-    let told-number : n ≡ min f.number most_long = ap (λ (g : Text). g.number) same in
+    let told-number : n ≡ min f.number too_large = ap (λ (g : Text). g.number) same in
     let number : n ≡ f.number = omega (arith, told-number, l) in
     let rest : t ≡ f.rest = ap (λ (g : Text). g.rest) same in
     (λ i. operation_of (number i) and_then λ u. fields_from u (record { number = number i; rest = rest i }))

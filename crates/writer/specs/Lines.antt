@@ -1,9 +1,9 @@
 -- What the code answers of a line and of a record: the fields of the record, and what is read of a line on the way to them.
-use Rattle.std.specs.Prelude.{if◌then◌else◌, Bool, true, false, List, [], ◌∷◌, ◌++◌, ℕ, ◌+◌, min, eqb, ◌≡◌, Option, None, Some, MatchOption, Result, Ok, Err}
+use Rattle.std.specs.Prelude.{if◌then◌else◌, Bool, true, false, List, [], ◌∷◌, ◌++◌, ℕ, suc, ◌+◌, min, eqb, ◌≡◌, Option, None, Some, MatchOption, Result, Ok, Err}
 use denote.Ref.{Bor}
 use Rattle.rules.specs.Requests.{Operation, operation_of}
 use Rattle.request.specs.Written.{record_bytes}
-use Rattle.listing.specs.Line.{Front as Text, ◌and_then◌, field_text, fields_from, number_from}
+use Rattle.listing.specs.Line.{Front as Text, ◌and_then◌, most_word, field_text, fields_from, number_from}
 use Rattle.listing.specs.Listing.{line_feed}
 use Rattle.text.specs.Text.{decimal}
 use Rattle.request.specs.declared.Fields.{Fields}
@@ -17,13 +17,13 @@ uses_of (Some u) = Some (record { object = u.object; priority = u.priority; numb
 
 -- FROM A LINE
 
--- the largest number of 64 bits, as which a larger one is told: no field can hold either
-abbrev pub most_long : ℕ
-most_long = 18446744073709551615
+-- a number that no field can hold is told as 2^32, whatever it is
+abbrev pub too_large : ℕ
+too_large = suc most_word
 
 abbrev pub told : Option Text → Option Text
 told None = None
-told (Some f) = Some (record { number = min f.number most_long; rest = f.rest })
+told (Some f) = Some (record { number = min f.number too_large; rest = f.rest })
 
 -- what an answer says
 abbrev pub front_of : Option Front → Option Text

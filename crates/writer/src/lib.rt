@@ -16,6 +16,9 @@ mod blocks;
 mod putting;
 mod reading;
 
+// What a number that no field can hold is told as: 2^32.
+const TOO_LARGE: u64 = 4294967296;
+
 // The most characters of a line before its line feed.
 const LINE_MOST: usize = 40;
 

@@ -1,15 +1,15 @@
 // From a line, without its line feed, to its fields.
-ghost use Rattle.std.specs.Prelude.{◌≡◌, ◌+◌, ◌*◌, ◌-◌, min, length, ◌≤◌, is_some, unwrap_or, [], ◌++◌, take_while};
+ghost use Rattle.std.specs.Prelude.{◌≡◌, true, ◌+◌, ◌*◌, ◌-◌, min, length, ◌≤◌, is_some, unwrap_or, [], ◌++◌};
 ghost use Rattle.rules.specs.Requests.{request_length};
 ghost use Rattle.request.specs.Written.{record_bytes};
 ghost use Rattle.listing.specs.Line.{is_digit, number_from, record_of};
-ghost use Rattle.writer.specs.Lines.{most_long, front_of, told, any_field, FieldRead, rest_of, bytes_read};
+ghost use Rattle.writer.specs.Lines.{too_large, front_of, told, any_field, FieldRead, rest_of, bytes_read};
 
-use crate::{LINE_MOST, asks};
+use crate::{LINE_MOST, TOO_LARGE, asks};
 use buffer::Buffer;
 use request::Fields;
 
-// A number that a text begins with, the largest of 64 bits in the place of a larger one, and the text after it.
+// A number that a text begins with, 2^32 in the place of a larger one, and the text after it.
 #[derive(Clone, Copy)]
 pub struct Front<'a> {
     pub number: u64,
@@ -18,29 +18,29 @@ pub struct Front<'a> {
 
 // A number with a digit written behind it.
 fn with_digit(n: u64, c: u8) -> u64
-    ensures { result ≡ min (n * 10 + (c - 48)) most_long }
+    requires { (n ≤ too_large) × (is_digit c ≡ true) }
+    ensures { result ≡ min (n * 10 + (c - 48)) too_large }
 {
-    n.saturating_mul(10)
-        .saturating_add(u64::from(c.saturating_sub(b'0')))
+    (n * 10 + u64::from(c - b'0')).min(TOO_LARGE)
 }
 
-// How many digits a text begins with.
-fn digit_count(text: &[u8]) -> usize
-    ensures { result ≡ length (take_while is_digit text.now) }
-{
-    text.iter().take_while(|c| c.is_ascii_digit()).count()
-}
-
-// The number that a text begins with.
+// The number that a text begins with. The digits are counted and read in one loop: `take_while` and `fold`, each over them all, take twice as long.
 fn number_from(text: &[u8]) -> Option<Front<'_>>
     ensures { front_of result ≡ told (number_from text.now) }
 {
-    let (digits, rest) = text.split_at(digit_count(text));
-    if digits.is_empty() {
+    let mut number: u64 = 0;
+    let mut n: usize = 0;
+    while n < text.len() && text[n].is_ascii_digit() {
+        number = with_digit(number, text[n]);
+        n += 1;
+    }
+    if n == 0 {
         return None;
     }
-    let number = digits.iter().fold(0, |n, c| with_digit(n, *c));
-    Some(Front { number, rest })
+    Some(Front {
+        number,
+        rest: &text[n..],
+    })
 }
 
 // A field of any number, and the text after it: a space and the number where it is used, and 0 where it is not.
