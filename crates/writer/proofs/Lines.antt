@@ -9,7 +9,7 @@ use mathlib.Core.List.{List, [], ◌∷◌, ◌++◌, append_assoc}
 use Rattle.std.specs.Int.{to_le_bytes}
 use mir.Syntax.{w32}
 use mir.Val.{Fits}
-use Prim.Native.Nat.{ℕ, ◌/◌, ◌%◌, suc, ◌+◌, ◌*◌, ◌-◌, ◌≤◌, ◌<◌, min}
+use Prim.Native.Nat.{ℕ, zero, ◌/◌, ◌%◌, suc, ◌+◌, ◌*◌, ◌-◌, ◌≤◌, ◌<◌, min}
 use native.Mathlib.Decide.{dec_lt}
 use native.Mathlib.Omega.{arith}
 use lib.Dec.{eqb}
@@ -138,6 +138,11 @@ digit_taken m t n h d =
     let next : n + 1 ≡ suc n = omega arith in
     rw (drop-cons t n 0 h, d, next)
     (same_capped (m * 10 + (get_or t n 0 - 48)) (min (m * 10 + (get_or t n 0 - 48)) too_large) (drop (suc n) t) (omega arith))
+
+-- what the first turn finds of the text's first character, a later one keeps
+pub started : (t : List ℕ) (n : ℕ) → (0 < n → digit_first t ≡ true) → digit_first (drop n t) ≡ true → 0 < n + 1 → digit_first t ≡ true
+started t zero h d p = d
+started t (suc n) h d p = h (omega arith)
 
 -- no digit: no number
 pub no_number : (t : List ℕ) → digit_first t ≡ false → None ≡ told (number_from t)

@@ -37,10 +37,8 @@ fn number_from(text: &[u8]) -> Option<Front<'_>>
     if n == 0 {
         return None;
     }
-    Some(Front {
-        number,
-        rest: &text[n..],
-    })
+    let (_, rest) = text.split_at(n);
+    Some(Front { number, rest })
 }
 
 // A field of any number, and the text after it: a space and the number where it is used, and 0 where it is not.

@@ -8,8 +8,8 @@ use Rattle.writer.specs.Lines.{too_large}
 use Rattle.writer.proofs.Lines.{capped}
 use Rattle.writer.proofs.reading.number_from.Given as goal
 
-abbrev pub invariant-loop-number : goal.invariant-loop-number
-invariant-loop-number l = (l.number ≤ too_large) × (l.n ≤ length l.text) × (capped (digits_from 0 l.text) ≡ capped (digits_from l.number (drop l.n l.text))) × (0 < l.n → digit_first l.text ≡ true)
+abbrev pub invariant-loop-n : goal.invariant-loop-n
+invariant-loop-n l = (l.number ≤ too_large) × (l.n ≤ length l.text) × (capped (digits_from 0 l.text) ≡ capped (digits_from l.number (drop l.n l.text))) × (0 < l.n → digit_first l.text ≡ true)
 
-abbrev pub decreases-loop-number : goal.decreases-loop-number
-decreases-loop-number l = length l.text - l.n
+abbrev pub decreases-loop-n : goal.decreases-loop-n
+decreases-loop-n l = length l.text - l.n
