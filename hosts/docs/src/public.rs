@@ -1,5 +1,5 @@
 //! The functions that a crate lets another one call: those of src/lib.rt and of its public modules, those of private modules that
-//! a `pub use` passes on, and the methods of the types among them.
+//! a `pub use` passes on, the methods of the types among them, and those of traits, wherever the crate writes them.
 
 use std::collections::BTreeSet;
 use std::path::Path;
@@ -8,9 +8,12 @@ use std::slice::from_ref;
 use crate::names::{identifier, item};
 use crate::{text, top};
 
-/// What a file says of functions that can be called from outside. A method is named with its type, as `Buffer::push`.
+/// What a file says of functions that can be called from outside. A method is named with its type, as `Buffer::push`, and one of a trait as
+/// the compiler names the implementation, as `U8FromOutcome::from`.
 struct Module {
     functions: Vec<String>,
+    of_traits: Vec<String>,
+    modules: Vec<String>,
     public_modules: Vec<String>,
     passed_on: Vec<PassedOn>,
 }
@@ -36,7 +39,21 @@ pub fn functions(name: &str) -> BTreeSet<String> {
 fn found_in(source: Source) -> BTreeSet<String> {
     let mut found = BTreeSet::new();
     collect(&[], &[], source, &mut found);
+    collect_of_traits(&[], source, &mut found);
     found
+}
+
+/// The methods of traits, which are public in every module.
+fn collect_of_traits(path: &[String], source: Source, found: &mut BTreeSet<String>) {
+    let Some(module) = module(path, source) else {
+        return;
+    };
+    for name in &module.of_traits {
+        found.insert([path, from_ref(name)].concat().join("::"));
+    }
+    for name in &module.modules {
+        collect_of_traits(&[path, from_ref(name)].concat(), source, found);
+    }
 }
 
 /// The module at a path, where the crate has one there.
@@ -52,17 +69,22 @@ fn module(path: &[String], source: Source) -> Option<Module> {
 fn parsed(text: &str, file: &str) -> Module {
     let mut module = Module {
         functions: Vec::new(),
+        of_traits: Vec::new(),
+        modules: Vec::new(),
         public_modules: Vec::new(),
         passed_on: Vec::new(),
     };
-    // the type whose methods are at hand
+    // the type, or the type and the trait, whose methods are at hand
     let mut owner = None;
+    let mut of_trait = None;
     let mut lines = text.lines();
     while let Some(line) = lines.next() {
         if line.starts_with("impl") {
             owner = methods_of(line);
+            of_trait = methods_of_trait(line);
         } else if line.starts_with('}') {
             owner = None;
+            of_trait = None;
         }
         if line.starts_with("pub use ") {
             let mut whole = line.to_string();
@@ -74,6 +96,11 @@ fn parsed(text: &str, file: &str) -> Module {
             module.passed_on.extend(expanded(paths));
         }
         let rest = line.trim_start();
+        match (item(rest), &of_trait) {
+            (Some(("fn", name)), Some(owner)) => module.of_traits.push(format!("{owner}::{name}")),
+            (Some(("mod", name)), _) if rest.ends_with(';') => module.modules.push(name),
+            _ => {}
+        }
         match item(rest).filter(|_| rest.starts_with("pub ")) {
             Some(("fn", name)) => {
                 let is_outer = rest.len() == line.len();
@@ -94,17 +121,36 @@ fn parsed(text: &str, file: &str) -> Module {
     module
 }
 
-/// The type whose own methods a line begins, as `impl<const N: usize> Buffer<N> {`. A trait's are none: they are public as the trait is.
-fn methods_of(line: &str) -> Option<String> {
+/// What stands behind the `impl` of a line, and behind its parameters.
+fn behind_impl(line: &str) -> Option<&str> {
     let rest = line.strip_prefix("impl")?;
     let rest = match rest.starts_with('<') {
         true => behind_brackets(rest)?,
         false => rest.strip_prefix(' ')?,
     };
-    let rest = rest.trim_start();
-    let is_trait = rest.split_whitespace().any(|word| word == "for");
+    Some(rest.trim_start())
+}
+
+/// The type whose own methods a line begins, as `impl<const N: usize> Buffer<N> {`.
+fn methods_of(line: &str) -> Option<String> {
+    let rest = behind_impl(line)?;
     let name = identifier(rest);
-    (!is_trait && !name.is_empty()).then_some(name)
+    (!rest.contains(" for ") && !name.is_empty()).then_some(name)
+}
+
+/// The type and the trait whose methods a line begins, in one word: `impl From<u8> for Outcome {` is `OutcomeFromU8`.
+fn methods_of_trait(line: &str) -> Option<String> {
+    let (of_trait, of_type) = behind_impl(line)?.split_once(" for ")?;
+    let of_type = identifier(of_type.trim_start());
+    let words = of_trait.split(|c: char| !c.is_alphanumeric() && c != '_');
+    Some(std::iter::once(of_type.as_str()).chain(words).map(capital).collect())
+}
+
+/// A word with a capital.
+fn capital(word: &str) -> String {
+    let mut letters = word.chars();
+    let first = letters.next().map(|c| c.to_ascii_uppercase());
+    first.into_iter().chain(letters).collect()
 }
 
 /// What stands behind the angle brackets that a text begins with. The arrow of a bound, as in `<F: Fn() -> u8>`, closes none.
@@ -261,7 +307,7 @@ mod tests {
     }
 
     #[test]
-    fn a_public_method_counts_with_its_type_and_a_traits_does_not() {
+    fn a_public_method_counts_with_its_type_and_a_traits_with_both() {
         let root = "\
 pub struct A<const N: usize> {
     pub b: u8,
@@ -277,6 +323,8 @@ impl<const N: usize> A<N> {
 }
 impl From<u8> for A {
     fn f(byte: u8)
+    {
+    }
 }
 impl<'a, F: Fn() -> u8> B<'a, F> {
     pub const fn g()
@@ -288,7 +336,15 @@ impl C {
 }
 pub fn i()
 ";
-        assert_eq!(found(&[("lib.rt", root)]), ["A::d", "B::g", "C::h", "i"]);
+        let all = ["A::d", "AFromU8::f", "AModel::c", "B::g", "C::h", "i"];
+        assert_eq!(found(&[("lib.rt", root)]), all);
+    }
+
+    #[test]
+    fn a_traits_method_counts_in_a_private_module() {
+        let private = "impl From<A> for u8 {\n    fn from(a: A)\n}\npub fn b()\n";
+        let files = [("lib.rt", "mod m;\n"), ("m.rt", private)];
+        assert_eq!(found(&files), ["m::U8FromA::from"]);
     }
 
     #[test]
