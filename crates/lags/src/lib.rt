@@ -116,7 +116,7 @@ fn put_stopped<const N: usize>(stopped: bool, out: &mut Buffer<N>)
 
 // The whole report goes to `out`.
 #[tactic(auto, unfolding(lanes::specs::Report::lane_lines))]
-pub fn put_report<const N: usize>(
+pub fn put_lanes<const N: usize>(
     table: &[u8; TABLE],
     accounts: &[u64; THREADS],
     stopped: bool,
