@@ -18,6 +18,10 @@ ghost use Rattle.lags.specs.Room.{lane_room, report_room};
 use buffer::Buffer;
 use rules::{TABLE, THREADS, Thread};
 
+mod lent;
+
+pub use lent::put_report;
+
 // "charged ticks times the sum of the turns of its rank's ready threads at the end, less its own turn times all ticks charged to those threads"
 fn lag(charged: u64, turns: u64, turn: u64, all: u64) -> i64
     requires charged_le_most_charges { (charged ≤ most_charges) × (turns ≤ printer.threads * most_ticks) }
