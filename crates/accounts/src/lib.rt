@@ -17,6 +17,9 @@ use buffer::Buffer;
 use rules::{REQUEST, Request, TABLE, THREADS};
 
 mod charges;
+mod lent;
+
+pub use lent::{Stood, serve};
 
 // So many records are served, and no more.
 pub const MOST_RECORDS: usize = 1000000;
