@@ -15,6 +15,10 @@ ghost use Rattle.replay.specs.Replay.{Replayed};
 use buffer::Buffer;
 use reader::Read;
 
+mod lent;
+
+pub use lent::{Served, finish, serve};
+
 // A fresh table.
 pub fn fresh() -> [u8; rules::TABLE]
     ensures { result ≡ fresh_table printer }
