@@ -17,6 +17,9 @@ use buffer::Buffer;
 use rules::{REQUEST, Request, TABLE, THREADS};
 
 mod charges;
+mod lent;
+
+pub use lent::{Stood, serve};
 
 // So many records are served, and no more.
 pub const MOST_RECORDS: usize = 1000000;
@@ -137,7 +140,7 @@ fn servable(number: usize, n: usize) -> usize
 
 // `number` records are served, and the bytes of the block have come: the whole records among them are served and entered, but no more than
 // 1,000,000 in all, and what is left over stays in the block. How many are served by then is given back.
-pub fn serve<const N: usize>(
+pub fn serve_part<const N: usize>(
     table: &mut [u8; TABLE],
     accounts: &mut [u64; THREADS],
     number: usize,

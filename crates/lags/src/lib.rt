@@ -18,6 +18,10 @@ ghost use Rattle.lags.specs.Room.{lane_room, report_room};
 use buffer::Buffer;
 use rules::{TABLE, THREADS, Thread};
 
+mod lent;
+
+pub use lent::put_report;
+
 // "charged ticks times the sum of the turns of its rank's ready threads at the end, less its own turn times all ticks charged to those threads"
 fn lag(charged: u64, turns: u64, turn: u64, all: u64) -> i64
     requires charged_le_most_charges { (charged ≤ most_charges) × (turns ≤ printer.threads * most_ticks) }
@@ -116,7 +120,7 @@ fn put_stopped<const N: usize>(stopped: bool, out: &mut Buffer<N>)
 
 // The whole report goes to `out`.
 #[tactic(auto, unfolding(lanes::specs::Report::lane_lines))]
-pub fn put_report<const N: usize>(
+pub fn put_lanes<const N: usize>(
     table: &[u8; TABLE],
     accounts: &[u64; THREADS],
     stopped: bool,

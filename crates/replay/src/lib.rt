@@ -15,6 +15,10 @@ ghost use Rattle.replay.specs.Replay.{Replayed};
 use buffer::Buffer;
 use reader::Read;
 
+mod lent;
+
+pub use lent::{Served, finish, serve};
+
 // A fresh table.
 pub fn fresh() -> [u8; rules::TABLE]
     ensures { result ≡ fresh_table printer }
@@ -74,7 +78,7 @@ fn replay<const M: usize>(
 
 // The bytes of the block have come, and the next record has number `number`: the whole records among them are served, their lines go to `out`, and
 // what is left over stays in the block. The number of the record after them is given back.
-pub fn serve<const N: usize, const M: usize>(
+pub fn serve_part<const N: usize, const M: usize>(
     table: &mut [u8; rules::TABLE],
     number: u64,
     block: &mut Buffer<N>,
@@ -95,7 +99,7 @@ pub fn serve<const N: usize, const M: usize>(
 }
 
 // The input has ended with so many bytes held: the line that says so, if there are any, goes to `out`.
-pub fn finish<const M: usize>(held: usize, out: &mut Buffer<M>)
+pub fn put_end<const M: usize>(held: usize, out: &mut Buffer<M>)
     requires { length out.old + short_room ≤ M }
     ensures line { out.new ≡ out.old ++ trace_text (short_line held) }
     ensures room { length out.new ≤ length out.old + short_room }

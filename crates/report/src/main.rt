@@ -57,7 +57,7 @@ fn serve_all(
         }
         // A cast: no `From` leads from a usize to it.
         bytes += n as u64;
-        number = accounts::serve(table, accounts, number, block);
+        number = accounts::serve_part(table, accounts, number, block);
         if rules::REQUEST <= block.len() {
             ended = true;
             break;
@@ -85,7 +85,7 @@ fn close(
 {
     let stopped = rules::REQUEST <= held;
     out.clear();
-    lags::put_report(table, accounts, stopped, out);
+    lags::put_lanes(table, accounts, stopped, out);
     if ended {
         let _ = stdio.write(out.as_slice());
     }

@@ -30,7 +30,7 @@ fn close(stdio: Streams, held: usize, ended: bool, lines: &mut Buffer<LINES>)
     ensures { lines.new ≡ trace_text (short_line held) }
 {
     lines.clear();
-    replay::finish(held, lines);
+    replay::put_end(held, lines);
     if ended {
         let _ = stdio.write(lines.as_slice());
     }
@@ -56,7 +56,7 @@ fn run(stdio: Streams, table: &mut [u8; rules::TABLE], lines: &mut Buffer<LINES>
         // A cast: no `From` leads from a usize to it.
         bytes += n as u64;
         lines.clear();
-        number = replay::serve(table, number, &mut block, lines);
+        number = replay::serve_part(table, number, &mut block, lines);
         if stdio.write(lines.as_slice()).is_err() {
             break;
         }

@@ -13,15 +13,15 @@ loop-init c =
     let ns = c.args.accounts.now in
     (omega (arith, ap length c.clear.ensures), omega arith, subst (Stands c.args.first t ns 0 c.args.first t ns) (sym c.clear.ensures) (none_seen c.args.first t ns))
 
-pub serve-number-requires : goal.serve-number-requires
-serve-number-requires c =
+pub serve_part-number-requires : goal.serve_part-number-requires
+serve_part-number-requires c =
     let stood = c.loop.invariant.2 in
     (search rules, (within_there stood c.requires.within, count_low stood c.requires.first_le_most_records))
 
 pub loop-preserved : goal.loop-preserved
 loop-preserved c =
     let come = c.in-Ok.ensures in
-    let served = c.serve-number.ensures in (
+    let served = c.serve_part-number.ensures in (
       omega (arith, c.if-len-ge-REQUEST.false, c.len.ensures.value),
       omega (arith, come.come, come.room, c.loop.invariant.1),
       stands_part c.loop.block c.read_behind.new.block c.in-Ok.n come.held come.come c.requires.first_le_most_records c.loop.invariant.2 _ _ _ _ served.number served.table served.accounts served.block,
@@ -30,5 +30,5 @@ loop-preserved c =
 pub returns-then-len-ge-REQUEST : goal.returns-then-len-ge-REQUEST
 returns-then-len-ge-REQUEST c =
     let come = c.in-Ok.ensures in
-    let served = c.serve-number.ensures in
+    let served = c.serve_part-number.ensures in
     stands_part c.loop.block c.read_behind.new.block c.in-Ok.n come.held come.come c.requires.first_le_most_records c.loop.invariant.2 _ _ _ _ served.number served.table served.accounts served.block

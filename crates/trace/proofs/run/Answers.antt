@@ -20,8 +20,8 @@ loop-init c =
 pub loop-preserved : goal.loop-preserved
 loop-preserved c =
     let come = c.in-Ok.ensures in
-    let served = c.serve-number.ensures in
-    let left : length c.serve-number.new.block ≡ length c.read_behind.new.block % request_length = ap length served.block ∙ left_length c.read_behind.new.block in (
+    let served = c.serve_part-number.ensures in
+    let left : length c.serve_part-number.new.block ≡ length c.read_behind.new.block % request_length = ap length served.block ∙ left_length c.read_behind.new.block in (
       omega (arith, left),
       omega (arith, served.number, come.room, c.loop.invariant.1),
       omega (arith, come.come, come.room, c.loop.invariant.2),
@@ -40,7 +40,7 @@ returns c =
           ended_by so_far w.table-is (w.block-is ∙ nothing_came c.loop.block w.read_behind.new.block w.in-Ok.n come.held come.come w.if-n-eq0.true) w.bytes-is w.number-is printed
       | then-loop-test+in-Ok+else-n-eq0+then-is_err w ↦
           let come = w.in-Ok.ensures in
-          let served = w.serve-number.ensures in
-          let more = traced_part c.loop.block w.read_behind.new.block w.in-Ok.n come.held come.come c.loop.number c.loop.table w.serve-number.new.table so_far served.replayed served.number served.block in
+          let served = w.serve_part-number.ensures in
+          let more = traced_part c.loop.block w.read_behind.new.block w.in-Ok.n come.held come.come c.loop.number c.loop.table w.serve_part-number.new.table so_far served.replayed served.number served.block in
           ended_by more w.table-is w.block-is w.bytes-is w.number-is printed
     ]

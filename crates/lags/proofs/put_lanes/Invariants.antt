@@ -1,4 +1,4 @@
--- `lags::put_report` meets its contract: before turn i the lines of the first i threads stand behind the first one. Assumes nothing.
+-- `lags::put_lanes` meets its contract: before turn i the lines of the first i threads stand behind the first one. Assumes nothing.
 use mathlib.Core.Path.{◌≡◌}
 use mathlib.Core.List.{◌++◌}
 use Prim.Native.Nat.{◌+◌, ◌-◌, ◌*◌, ◌≤◌}
@@ -8,7 +8,7 @@ use Rattle.rules.specs.Table.{decode}
 use Rattle.lanes.specs.Report.{lane_lines}
 use Rattle.lanes.specs.Kept.{of}
 use Rattle.lags.specs.Room.{lane_room}
-use Rattle.lags.proofs.put_report.Given as goal
+use Rattle.lags.proofs.put_lanes.Given as goal
 
 abbrev pub invariant-loop-i : goal.invariant-loop-i
 invariant-loop-i g l =

@@ -1,4 +1,4 @@
--- `lags::put_report` meets its contract: before turn i the lines of the first i threads stand behind the first one. Assumes nothing.
+-- `lags::put_lanes` meets its contract: before turn i the lines of the first i threads stand behind the first one. Assumes nothing.
 use mathlib.Core.Path.{◌≡◌, ap, ◌∙◌}
 use mathlib.Core.List.{◌++◌, append_assoc}
 use Prim.Native.Nat.{◌<◌}
@@ -11,7 +11,7 @@ use Rattle.layout.proofs.RoundTrip.{on_decode}
 use Rattle.lanes.specs.Report.{lane_lines}
 use Rattle.lanes.specs.Kept.{of}
 use Rattle.lags.proofs.Turned.{lines_turn}
-use Rattle.lags.proofs.put_report.Goals as goal
+use Rattle.lags.proofs.put_lanes.Goals as goal
 
 pub loop-i-preserved : goal.loop-i-preserved
 loop-i-preserved g c =
