@@ -101,6 +101,6 @@ pub fn finish<const M: usize>(held: usize, out: &mut Buffer<M>)
     ensures room { length out.new ≤ length out.old + short_room }
 {
     if held != 0 {
-        text::put_short(out, held);
+        text::put_short_line(out, held);
     }
 }
