@@ -11,7 +11,11 @@ ghost use Rattle.exchange.specs.Going.{Ended};
 
 use buffer::Buffer;
 use listing::Way;
-use streams::Streams;
+use streams::Program;
+
+mod lent;
+
+pub use lent::{Done, run};
 
 // A block holds 1,024 records, so that a file's reads leave nothing over.
 pub const BLOCK: usize = 1024 * rules::REQUEST;
@@ -21,7 +25,7 @@ pub const OUT: usize = 6 * BLOCK + 48;
 
 // What the run comes to: how many bytes have come, and the number of the line or record behind those that are done.
 #[derive(Clone, Copy)]
-pub struct Done {
+pub struct Reached {
     pub bytes: u64,
     pub number: u64,
 }
@@ -48,12 +52,12 @@ fn close(way: Way, bad: Option<u64>, out: &mut Buffer<OUT>)
 // where there is none, the refusal is said. What is held at the end stays in the block, and the refusal in `out`. The loop is of these two programs
 // alone, as that of `trace` is its own.
 fn run_from(
-    stdio: Streams,
+    program: Program<'_>,
     way: Way,
     first: u64,
     block: &mut Buffer<BLOCK>,
     out: &mut Buffer<OUT>,
-) -> Done
+) -> Reached
     requires { first < 2 ^ 61 }
     ensures { Ended way first result.bytes result.number block.new out.new }
 {
@@ -61,15 +65,15 @@ fn run_from(
     let mut bytes: u64 = 0;
     let mut number = first;
     for _ in 0..streams::READS {
-        let come = stdio.read_behind(block);
+        let come = program.read_behind(block);
         let ended = come.is_ok();
         let n = come.unwrap_or(0);
         if n == 0 {
             close(way, left_bad(Ok(number), block), out);
             if ended {
-                stdio.say(out.as_slice());
+                program.say(out.as_slice());
             }
-            return Done { bytes, number };
+            return Reached { bytes, number };
         }
         // A cast: no `From` leads from a usize to it.
         bytes += n as u64;
@@ -79,22 +83,27 @@ fn run_from(
         let bad = left_bad(turned, block);
         let (Ok(next) | Err(next)) = turned;
         number = next;
-        let written = stdio.write(out.as_slice()).is_ok();
+        let written = program.write(out.as_slice()).is_ok();
         if stopped | !written {
             close(way, bad, out);
             if written {
-                stdio.say(out.as_slice());
+                program.say(out.as_slice());
             }
-            return Done { bytes, number };
+            return Reached { bytes, number };
         }
     }
     close(way, left_bad(Ok(number), block), out);
-    Done { bytes, number }
+    Reached { bytes, number }
 }
 
 // The whole input is turned.
-pub fn run(stdio: Streams, way: Way, block: &mut Buffer<BLOCK>, out: &mut Buffer<OUT>) -> Done
+pub fn turn_all(
+    program: Program<'_>,
+    way: Way,
+    block: &mut Buffer<BLOCK>,
+    out: &mut Buffer<OUT>,
+) -> Reached
     ensures { Ended way 0 result.bytes result.number block.new out.new }
 {
-    run_from(stdio, way, 0, block, out)
+    run_from(program, way, 0, block, out)
 }

@@ -3,13 +3,13 @@
 
 use buffer::Buffer;
 use listing::Way;
-use streams::Streams;
+use streams::Program;
 
 fn main(rt: HostRuntime) {
     let mut block = Buffer::new();
     let mut out = Buffer::new();
-    exchange::run(
-        Streams::of(&rt, b"list"),
+    exchange::turn_all(
+        Program::of(streams::of(&rt), b"list"),
         Way::ToListing,
         &mut block,
         &mut out,

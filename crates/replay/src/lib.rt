@@ -105,6 +105,6 @@ pub fn put_end<const M: usize>(held: usize, out: &mut Buffer<M>)
     ensures room { length out.new ≤ length out.old + short_room }
 {
     if held != 0 {
-        text::put_short(out, held);
+        text::put_short_line(out, held);
     }
 }

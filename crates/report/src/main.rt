@@ -14,7 +14,7 @@ ghost use Rattle.report.specs.Going.{Stands, Ended};
 
 use buffer::Buffer;
 use rules::{TABLE, THREADS};
-use streams::Streams;
+use streams::Program;
 
 // A block holds 1,024 records, so that a file's reads leave nothing over.
 const BLOCK: usize = 1024 * rules::REQUEST;
@@ -33,7 +33,7 @@ struct Reported {
 // The whole input is replayed, part by part, where `first` records went before. A failure is said on standard error and ends it. The loop is this
 // program's own, as that of `trace` is.
 fn serve_all(
-    stdio: Streams,
+    program: Program<'_>,
     table: &mut [u8; TABLE],
     accounts: &mut [u64; THREADS],
     first: usize,
@@ -48,7 +48,7 @@ fn serve_all(
     let mut number = first;
     let mut ended = false;
     for _ in 0..streams::READS {
-        let Ok(n) = stdio.read_behind(block) else {
+        let Ok(n) = program.read_behind(block) else {
             break;
         };
         if n == 0 {
@@ -72,7 +72,7 @@ fn serve_all(
 
 // No more is read: the report stands ready, and is written unless a read failed.
 fn close(
-    stdio: Streams,
+    program: Program<'_>,
     table: &[u8; TABLE],
     accounts: &[u64; THREADS],
     held: usize,
@@ -87,13 +87,13 @@ fn close(
     out.clear();
     lags::put_lanes(table, accounts, stopped, out);
     if ended {
-        let _ = stdio.write(out.as_slice());
+        let _ = program.write(out.as_slice());
     }
 }
 
 // The whole input is replayed where `first` records went before, and reported.
 fn run(
-    stdio: Streams,
+    program: Program<'_>,
     table: &mut [u8; TABLE],
     accounts: &mut [u64; THREADS],
     first: usize,
@@ -105,8 +105,8 @@ fn run(
     requires first_le_most_records { first ≤ most_records }
     ensures { Ended first table.old accounts.old result.bytes result.number table.new accounts.new block.new out.new }
 {
-    let reported = serve_all(stdio, table, accounts, first, block);
-    close(stdio, table, accounts, block.len(), reported.ended, out);
+    let reported = serve_all(program, table, accounts, first, block);
+    close(program, table, accounts, block.len(), reported.ended, out);
     reported
 }
 
@@ -116,7 +116,7 @@ fn main(rt: HostRuntime) {
     let mut block = Buffer::new();
     let mut out = Buffer::new();
     run(
-        Streams::of(&rt, b"report"),
+        Program::of(streams::of(&rt), b"report"),
         &mut table,
         &mut accounts,
         0,

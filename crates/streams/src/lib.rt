@@ -7,27 +7,66 @@ ghost use Rattle.std.specs.Prelude.{◌≡◌, ◌+◌, ◌≤◌, length, take,
 use buffer::Buffer;
 use std::io::{Print, Read, Result, Stderr, Stdin, Stdout};
 
+mod lent;
+
+pub use lent::{Come, read_behind, say_front, write_front};
+
 // How many reads a program makes at the most: more than any machine lives for.
 pub const READS: u64 = 1125899906842624;
 
-// A program's three streams, as its `main` is given them, and its name.
+// A program's three streams, as its `main` is given them.
 #[derive(Clone, Copy)]
 pub struct Streams {
-    input: Stdin,
-    output: Stdout,
-    errors: Stderr,
-    name: &'static [u8],
+    pub input: Stdin,
+    pub output: Stdout,
+    pub errors: Stderr,
 }
 
-impl Streams {
-    // The streams of the process, for the program of that name.
-    pub fn of(rt: &HostRuntime, name: &'static [u8]) -> Streams {
-        Streams {
-            input: rt.stdin(),
-            output: rt.stdout(),
-            errors: rt.stderr(),
-            name,
-        }
+// The streams of the process.
+pub fn of(rt: &HostRuntime) -> Streams {
+    Streams {
+        input: rt.stdin(),
+        output: rt.stdout(),
+        errors: rt.stderr(),
+    }
+}
+
+// The bytes go to standard error.
+fn say_bytes(stdio: Streams, bytes: &[u8]) {
+    let _ = stdio.errors.write_all(bytes);
+}
+
+// A program's name and what failed, on standard error.
+fn say_failure(stdio: Streams, name: &[u8], what: &[u8]) {
+    say_bytes(stdio, name);
+    say_bytes(stdio, what);
+}
+
+// A read failed.
+fn say_unread(stdio: Streams, name: &[u8]) {
+    say_failure(stdio, name, b": standard input can't be read\n");
+}
+
+// The bytes go to standard output.
+fn write_bytes(stdio: Streams, name: &[u8], bytes: &[u8]) -> Result<()> {
+    let written = stdio.output.write_all(bytes);
+    if written.is_err() {
+        say_failure(stdio, name, b": standard output can't be written\n");
+    }
+    written
+}
+
+// A program's streams, and its name.
+#[derive(Clone, Copy)]
+pub struct Program<'a> {
+    streams: Streams,
+    name: &'a [u8],
+}
+
+impl<'a> Program<'a> {
+    // The program of that name, with those streams.
+    pub fn of(streams: Streams, name: &'a [u8]) -> Program<'a> {
+        Program { streams, name }
     }
 
     // One read of standard input, behind the bytes that the block holds: these stay. How many came is given back, and 0 at the end.
@@ -39,14 +78,14 @@ impl Streams {
     {
         let mut part = [0u8; N];
         let held = block.len();
-        let mut input = self.input;
+        let mut input = self.streams.input;
         match input.read(&mut part[..N - held]) {
             Ok(n) => {
                 block.extend(&part[..n]);
                 Ok(n)
             }
             Err(why) => {
-                self.say_failure(b": standard input can't be read\n");
+                say_unread(self.streams, self.name);
                 Err(why)
             }
         }
@@ -54,21 +93,11 @@ impl Streams {
 
     // The bytes go to standard output.
     pub fn write(&self, bytes: &[u8]) -> Result<()> {
-        let written = self.output.write_all(bytes);
-        if written.is_err() {
-            self.say_failure(b": standard output can't be written\n");
-        }
-        written
+        write_bytes(self.streams, self.name, bytes)
     }
 
     // The bytes go to standard error.
     pub fn say(&self, bytes: &[u8]) {
-        let _ = self.errors.write_all(bytes);
-    }
-
-    // The program's name and what failed, on standard error.
-    fn say_failure(&self, what: &[u8]) {
-        self.say(self.name);
-        self.say(what);
+        say_bytes(self.streams, bytes);
     }
 }

@@ -9,6 +9,10 @@ ghost use Rattle.text.specs.Rooms.{line_room, short_room};
 
 use buffer::Buffer;
 
+mod lent;
+
+pub use lent::put_short;
+
 // The digits of a number at the front of a place that has room for every one: those before the last, then the last. How many they are is given back.
 // A digit fits in a byte, by a cast. An array is filled and not the buffer: a function that is generic and calls itself was tried, and the check can't take its goal.
 fn put_digits(digits: &mut [u8; 20], n: u64) -> usize
@@ -90,7 +94,7 @@ pub fn put_line<const N: usize>(
 }
 
 // The last line, of left-over bytes.
-pub fn put_short<const N: usize>(out: &mut Buffer<N>, n: usize)
+pub fn put_short_line<const N: usize>(out: &mut Buffer<N>, n: usize)
     requires { length out.old + short_room ≤ N }
     ensures puts { out.new ≡ out.old ++ line_text (short n) }
     ensures upper_bound { length out.new ≤ length out.old + short_room }

@@ -9,7 +9,7 @@ ghost use Rattle.text.specs.Text.{trace_text};
 ghost use Rattle.trace.specs.Going.{Ended};
 
 use buffer::Buffer;
-use streams::Streams;
+use streams::Program;
 
 // A block holds 1,024 records, so that a file's reads leave nothing over; a line takes at most 48 bytes.
 const RECORDS: usize = 1024;
@@ -26,19 +26,19 @@ struct Served {
 }
 
 // No more is read: the line of the bytes that are held stands ready, and is written if the input has ended.
-fn close(stdio: Streams, held: usize, ended: bool, lines: &mut Buffer<LINES>)
+fn close(program: Program<'_>, held: usize, ended: bool, lines: &mut Buffer<LINES>)
     ensures { lines.new ≡ trace_text (short_line held) }
 {
     lines.clear();
     replay::put_end(held, lines);
     if ended {
-        let _ = stdio.write(lines.as_slice());
+        let _ = program.write(lines.as_slice());
     }
 }
 
 // The whole input is traced, part by part. A failure is said on standard error and ends the trace. Each of the three programs has this loop of
 // its own: what they do with a part and when they end differs, and a closure's contract would be the loop's invariant over again.
-fn run(stdio: Streams, table: &mut [u8; rules::TABLE], lines: &mut Buffer<LINES>) -> Served
+fn run(program: Program<'_>, table: &mut [u8; rules::TABLE], lines: &mut Buffer<LINES>) -> Served
     ensures { Ended table.old result.bytes result.number table.new lines.new }
 {
     let mut block = Buffer::<BLOCK>::new();
@@ -46,7 +46,7 @@ fn run(stdio: Streams, table: &mut [u8; rules::TABLE], lines: &mut Buffer<LINES>
     let mut number: u64 = 0;
     let mut ended = false;
     for _ in 0..streams::READS {
-        let Ok(n) = stdio.read_behind(&mut block) else {
+        let Ok(n) = program.read_behind(&mut block) else {
             break;
         };
         if n == 0 {
@@ -57,16 +57,20 @@ fn run(stdio: Streams, table: &mut [u8; rules::TABLE], lines: &mut Buffer<LINES>
         bytes += n as u64;
         lines.clear();
         number = replay::serve_part(table, number, &mut block, lines);
-        if stdio.write(lines.as_slice()).is_err() {
+        if program.write(lines.as_slice()).is_err() {
             break;
         }
     }
-    close(stdio, block.len(), ended, lines);
+    close(program, block.len(), ended, lines);
     Served { bytes, number }
 }
 
 fn main(rt: HostRuntime) {
     let mut table = replay::fresh();
     let mut lines = Buffer::new();
-    run(Streams::of(&rt, b"trace"), &mut table, &mut lines);
+    run(
+        Program::of(streams::of(&rt), b"trace"),
+        &mut table,
+        &mut lines,
+    );
 }

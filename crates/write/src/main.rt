@@ -4,13 +4,13 @@
 
 use buffer::Buffer;
 use listing::Way;
-use streams::Streams;
+use streams::Program;
 
 fn main(rt: HostRuntime) {
     let mut block = Buffer::new();
     let mut out = Buffer::new();
-    exchange::run(
-        Streams::of(&rt, b"write"),
+    exchange::turn_all(
+        Program::of(streams::of(&rt), b"write"),
         Way::ToRecords,
         &mut block,
         &mut out,

@@ -1,9 +1,9 @@
--- `text::put_short` meets its contract: its word, then a field with the number. Assumes nothing.
+-- `text::put_short_line` meets its contract: its word, then a field with the number. Assumes nothing.
 use borrow.Author.Rules.{rules}
 use native.Mathlib.Omega.{arith}
 use lib.ListN.{length-append}
 use Rattle.text.proofs.Room.{room_64}
-use Rattle.text.proofs.put_short.Goals as goal
+use Rattle.text.proofs.put_short_line.Goals as goal
 
 pub put_field-requires : goal.put_field-requires
 put_field-requires g c = (search rules, grind (arith, length-append, room_64 c.ranges.n, c.extend.ensures, c.requires))
