@@ -45,7 +45,7 @@ fn close(way: Way, bad: Option<u64>, out: &mut Buffer<OUT>)
     ensures { out.new ≡ refusal_text way bad }
 {
     out.clear();
-    writer::refuse(way, bad, out);
+    writer::put_refusal(way, bad, out);
 }
 
 // The whole input is turned, part by part, where its first line or record has number `first`. A failure is said on standard error and ends it;
@@ -78,7 +78,7 @@ fn run_from(
         // A cast: no `From` leads from a usize to it.
         bytes += n as u64;
         out.clear();
-        let turned = writer::turn(way, number, block, out);
+        let turned = writer::turn_part(way, number, block, out);
         let stopped = turned.is_err();
         let bad = left_bad(turned, block);
         let (Ok(next) | Err(next)) = turned;

@@ -3,3 +3,4 @@ pub mod Lines
 pub mod Block
 pub mod Pieces
 pub mod Left
+pub mod Stored

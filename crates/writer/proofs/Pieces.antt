@@ -132,7 +132,7 @@ given_some : (m : Option (List ℕ)) → true ≡ is_some m → m ≡ Some (unwr
 given_some None e = absurd (clash (sym e) refl)
 given_some (Some x) e = refl
 
-given_none : (m : Option (List ℕ)) → false ≡ is_some m → m ≡ None
+pub given_none : (m : Option (List ℕ)) → false ≡ is_some m → m ≡ None
 given_none None e = refl
 given_none (Some x) e = absurd (clash refl (sym e))
 

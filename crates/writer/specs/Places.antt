@@ -1,8 +1,9 @@
 -- What the code promises of a block: how far its whole pieces are turned.
-use Rattle.std.specs.Prelude.{Bool, List, ◌++◌, ◌≡◌, ℕ, ◌+◌, ◌*◌, ◌≤◌, length, take, Result, Ok, Err}
+use Rattle.std.specs.Prelude.{Bool, List, [], ◌++◌, ◌≡◌, ℕ, ◌+◌, ◌*◌, ◌≤◌, length, take, Result, Ok, Err}
 use Rattle.listing.specs.Listing.{cut, input_of, bytes_of}
 use Rattle.listing.specs.Parts.{part_of, is_bad}
 use Rattle.listing.specs.declared.Way.{Way}
+use Rattle.text.specs.Puts.{Puts}
 use Rattle.writer.specs.Lines.{listed_room}
 
 -- the place after the last piece of which something came out
@@ -31,3 +32,9 @@ pub record Block (w : Way) (come out out' : List ℕ) (done at : ℕ) (bad : Boo
   pub stop : bad ≡ is_bad (part_of w come).bad
   pub inside : (at ≤ length come) × (done ≤ length come)
   pub room : length out' ≤ length out + 6 * length come
+
+-- the same of lent bytes: the text that comes out is put at their front, and `next` is the place after it
+pub record LentBlock (w : Way) (come out out' : List ℕ) (done at next : ℕ) (bad : Bool) : Type 0 where
+  pub text : List ℕ
+  pub block : Block w come [] text done at bad
+  pub puts : Puts out 0 text out' next

@@ -9,7 +9,7 @@ use buffer::Buffer;
 use listing::Way;
 
 // How many characters stand before the first line feed, if there is one.
-fn line_length(text: &[u8]) -> Option<usize>
+pub fn line_length(text: &[u8]) -> Option<usize>
     ensures { result ≡ position (λ c. eqb c line_feed) text.now }
 {
     text.iter().position(|c| *c == b'\n')

@@ -13,8 +13,11 @@ use listing::Way;
 
 mod asks;
 mod blocks;
+mod lent;
 mod putting;
 mod reading;
+
+pub use lent::{Turned, refuse, turn};
 
 // What a number that no field can hold is told as: 2^32.
 const TOO_LARGE: u64 = 4294967296;
@@ -58,7 +61,7 @@ fn is_too_long(way: Way, n: usize) -> bool
 // The bytes of the block have come, and the next line or record has number `number`: those that are whole are turned, up to the first that is
 // bad, and what comes out of them is put behind what `out` has. What is left over stays in the block, and the number of the next one is given back; as an
 // error where that one is bad and the text stops, and then all of the block stays.
-pub fn turn<const N: usize, const M: usize>(
+pub fn turn_part<const N: usize, const M: usize>(
     way: Way,
     number: u64,
     block: &mut Buffer<N>,
@@ -98,7 +101,7 @@ fn put_what<const N: usize>(way: Way, out: &mut Buffer<N>)
 }
 
 // Order 2: "Refusals: bad line, with its number from 0." Where there is one, it is put behind what `out` has.
-pub fn refuse<const N: usize>(way: Way, bad: Option<u64>, out: &mut Buffer<N>)
+pub fn put_refusal<const N: usize>(way: Way, bad: Option<u64>, out: &mut Buffer<N>)
     requires { length out.old + refusal_room ≤ N }
     ensures line { out.new ≡ out.old ++ refusal_text way bad }
     ensures room { length out.new ≤ length out.old + refusal_room }

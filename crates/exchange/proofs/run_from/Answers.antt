@@ -28,7 +28,7 @@ pub returns-then-written : goal.returns-then-written
 returns-then-written c =
     let read = c.read_behind-come in
     let came : Come c.loop.block read.new.block c.unwrap_or-n.result = rw c.unwrap_or-n.ensures (has_come read.result read.ensures.held read.ensures.come read.ensures.failed) in
-    let turned = c.turn-turned in
+    let turned = c.turn_part-turned in
     let next : c.match-turned.next ≡ reached turned.result = search rules in
     rw next
     (turned_end came c.loop.invariant.3 turned.ensures.number turned.ensures.block turned.ensures.stopped (c.close-then-stopped-written.ensures ∙ ap (refusal_text c.args.way) c.left_bad-bad.ensures))
@@ -37,7 +37,7 @@ pub returns-else-written : goal.returns-else-written
 returns-else-written c =
     let read = c.read_behind-come in
     let came : Come c.loop.block read.new.block c.unwrap_or-n.result = rw c.unwrap_or-n.ensures (has_come read.result read.ensures.held read.ensures.come read.ensures.failed) in
-    let turned = c.turn-turned in
+    let turned = c.turn_part-turned in
     let next : c.match-turned.next ≡ reached turned.result = search rules in
     rw next
     (turned_end came c.loop.invariant.3 turned.ensures.number turned.ensures.block turned.ensures.stopped (c.close-then-stopped-written.ensures ∙ ap (refusal_text c.args.way) c.left_bad-bad.ensures))
@@ -46,7 +46,7 @@ pub loop-preserved : goal.loop-preserved
 loop-preserved c =
     let read = c.read_behind-come in
     let came : Come c.loop.block read.new.block c.unwrap_or-n.result = rw c.unwrap_or-n.ensures (has_come read.result read.ensures.held read.ensures.come read.ensures.failed) in
-    let turned = c.turn-turned in
+    let turned = c.turn_part-turned in
     let next : c.match-turned.next ≡ reached turned.result = search rules in (
       rw turned.ensures.block (omega (arith, holds_room c.args.way read.new.block, read.ensures.room)),
       rw next (omega (arith, turned.ensures.few, read.ensures.room, c.loop.invariant.1)),

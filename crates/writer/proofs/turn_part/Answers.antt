@@ -1,9 +1,9 @@
--- `writer::turn` meets its contract: what stands behind the pieces that are done is what is left over. Assumes nothing.
+-- `writer::turn_part` meets its contract: what stands behind the pieces that are done is what is left over. Assumes nothing.
 use borrow.Author.Rules.{rules}
 use mathlib.Core.Path.{◌≡◌, sym, ap, ◌∙◌}
 use Rattle.writer.specs.Places.{reached}
 use Rattle.writer.proofs.Left.{stops_by, stopped_here, went_on}
-use Rattle.writer.proofs.turn.Goals as goal
+use Rattle.writer.proofs.turn_part.Goals as goal
 
 pub returns-then-bad-is_too_long-clause-stopped : goal.returns-then-bad-is_too_long-clause-stopped
 returns-then-bad-is_too_long-clause-stopped g c =

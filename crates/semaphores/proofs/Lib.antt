@@ -1,0 +1,2 @@
+-- Laws of semaphores.
+pub mod Numbers
