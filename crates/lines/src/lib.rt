@@ -6,10 +6,11 @@
 
 ghost use Rattle.std.specs.Prelude.{if◌then◌else◌, ◌≡◌, ℕ, ◌*◌, ◌^◌, ◌≤◌, ◌<◌, map, IfSome};
 ghost use Rattle.rules.specs.State.{State, at, is_ready, edit, with_place};
-ghost use Rattle.rules.specs.Lines.{ready, in_line, line_length, move_up, leave, filled, tail_place, join, move};
+ghost use Rattle.rules.specs.Lines.{ready, in_line, line_length, is_first, first, move_up, leave, filled, tail_place, join, move};
 ghost use Rattle.layout.specs.Boards.{HasThread};
 ghost use Rattle.layout.specs.Held.{said, Holds, Whole, Becomes, on_threads};
 ghost use Rattle.marks.specs.Named.{named};
+ghost use Rattle.marks.specs.Numbers.{line_number};
 ghost use Rattle.marks.specs.Marks.{mark_of};
 ghost use Rattle.lines.specs.First.{first_if_any};
 
@@ -49,11 +50,11 @@ fn exponent(power: u64) -> u8
 }
 
 // How many threads stand in the line. The table is lent anew at each look: with `t` itself the compiler keeps where it stands on the stack.
-pub fn line_length(t: &[u8], line: Line) -> u8
+pub fn length(t: &[u8], line: Line) -> u8
     requires { Whole t.now }
     ensures { (s : State) → said t.now ≡ s → result ≡ line_length (named line) s.threads }
 {
-    let m = marks::mark_of(line);
+    let m = marks::line_mark(line);
     let mut power: u64 = 1;
     let threads = boards::threads(&t[..]);
     for j in 0..threads {
@@ -62,10 +63,24 @@ pub fn line_length(t: &[u8], line: Line) -> u8
     exponent(power)
 }
 
+// The same for the line of that number. A loop of its own: the kernel's stack goes by how the one above is compiled (docs/DECISIONS.md).
+pub fn line_length(t: &[u8], line: u16) -> u8
+    requires { Whole t.now }
+    ensures { (s : State) (l : _) → said t.now ≡ s → line ≡ line_number l → result ≡ line_length l s.threads }
+{
+    let m = marks::mark_of(line);
+    let mut power: u64 = 1;
+    let threads = boards::threads(t);
+    for j in 0..threads {
+        power = counted(power, marks::has_mark(t, j, m));
+    }
+    exponent(power)
+}
+
 // WHO IS FIRST
 
 // Which thread is the line's first, if it has one.
-pub fn first_of(t: &[u8], line: Line) -> Option<usize>
+pub fn first_if_any(t: &[u8], line: Line) -> Option<usize>
     requires { Whole t.now }
     ensures thread { IfSome result (HasThread t.now) }
     ensures first { (s : State) → said t.now ≡ s → result ≡ first_if_any (named line) s.threads }
@@ -73,6 +88,29 @@ pub fn first_of(t: &[u8], line: Line) -> Option<usize>
     let m = marks::first_mark(line);
     let threads = boards::threads(&t[..]);
     (0..threads).find(|j| marks::has_mark(&t[..], *j, m))
+}
+
+// Is thread `j` the first of the line whose mark is given?
+fn leads(t: &[u8], j: usize, m: Mark) -> bool
+    requires { HasThread t.now j × Whole t.now }
+    ensures { (s : State) (l : _) → said t.now ≡ s → m ≡ mark_of l → result ≡ is_first l (at s.threads j) }
+{
+    marks::has_mark(t, j, m) && records::load_thread(t, j).place == 1
+}
+
+// Which thread is the first of the line of that number; where it has none, the number of threads.
+pub fn first_of(t: &[u8], line: u16) -> usize
+    requires { Whole t.now }
+    ensures { (s : State) (l : _) → said t.now ≡ s → line ≡ line_number l → result ≡ first l s.threads }
+{
+    let m = marks::mark_of(line);
+    let threads = boards::threads(t);
+    for j in 0..threads {
+        if leads(t, j, m) {
+            return j;
+        }
+    }
+    threads
 }
 
 // A THREAD LEAVES ITS LINE
@@ -103,7 +141,7 @@ fn close_gap(t: &mut [u8], line: Line, place: u8) -> u8
     ensures count { (s : State) → Holds t.old s → result ≡ line_length (named line) s.threads }
     ensures table { Becomes t.old t.new (on_threads (map (move_up (named line) place))) }
 {
-    let m = marks::mark_of(line);
+    let m = marks::line_mark(line);
     let mut power: u64 = 1;
     let threads = boards::threads(t);
     for j in 0..threads {
@@ -157,7 +195,7 @@ pub fn join(t: &mut [u8], i: usize) -> u8
     ensures table { Becomes t.old t.new (on_threads (join i)) }
 {
     let th = records::load_thread(t, i);
-    let place = marks::line_of(th).map_or(0, |line| line_length(t, line));
+    let place = marks::line_of(th).map_or(0, |line| length(t, line));
     stand_at(t, i, place);
     place
 }

@@ -74,9 +74,9 @@ fn empty_mailbox(t: &mut [u8], r: usize)
 {
     // A cast: a thread's number fits in a byte.
     let line = Line::Senders { thread: r as u8 };
-    if lines::line_length(t, line) == 0 {
+    if lines::length(t, line) == 0 {
         records::set_mail(t, r, false, 0);
-    } else if let Some(i) = lines::first_of(t, line) {
+    } else if let Some(i) = lines::first_if_any(t, line) {
         let th = records::load_thread(t, i);
         waiting::end_wait(t, i, Outcome::Done, 0);
         records::set_mail(t, r, true, th.parcel);

@@ -4,10 +4,10 @@ use Rattle.std.specs.Prelude.{if◌then◌else◌}
 use mathlib.Core.Bool.{Bool, true, false, ◌&&◌}
 use mathlib.Core.Path.{◌≡◌, refl, ap, sym, ◌∙◌}
 use mathlib.Core.List.{List}
-use Prim.Native.Nat.{ℕ, ◌+◌, ◌*◌, ◌^◌, ◌<◌}
+use Prim.Native.Nat.{ℕ, ◌+◌, ◌*◌, ◌-◌, ◌/◌, ◌^◌, ◌<◌}
 use native.Mathlib.Nat.{mod-eq_of_lt, add-zero}
 use native.Mathlib.Omega.{arith}
-use borrow.Author.Tests.{ne_eqb, eqb-true, eqb-false, leb-true, leb-false}
+use borrow.Author.Tests.{ne_eqb, eqb-true, eqb-false, lt-leb, leb-true, leb-false}
 use lib.Bits.{bit_and, and_block, and_mask, and_zero_r, and_le_l}
 use lib.Dec.{eqb, leb}
 use lib.ListN.{get_or}
@@ -27,7 +27,8 @@ use Rattle.layout.proofs.Records.{thread_byte}
 use Rattle.layout.proofs.Boards.{has_thread}
 use Rattle.layout.proofs.Held.{holds_on, holds_whole}
 use Rattle.words.specs.Long.{long_at}
-use Rattle.marks.specs.Marks.{standing, head_of, mark_of, first_mark}
+use Rattle.marks.specs.Numbers.{line_number}
+use Rattle.marks.specs.Marks.{standing, head_of, nobody, mark_of, first_mark}
 use Rattle.marks.specs.declared.Mark.{Mark}
 use Rattle.marks.proofs.Numbered.{as_number}
 
@@ -172,13 +173,13 @@ module _ (t : Thread) (small : Small t) where
     | isnt e ↦ rw e (nobody_has (standing t) ∙ sym (none_beyond i t.priority (leb-false i 255 e) small.priority t.used t.suspended t.wait small.object).2)
   ]
 
-  line_tells : (l : Line) → eqb (bit_and (head_of t) (mark_of l).mask) (mark_of l).bytes ≡ in_line l t
+  pub line_tells : (l : Line) → eqb (bit_and (head_of t) (mark_of l).mask) (mark_of l).bytes ≡ in_line l t
   line_tells l =
       ap (λ x. eqb x (mark_of l).bytes) (masked (t.place + 256 * (bit t.full + 256 * outcome_byte t.outcome)) (standing t) (mark_of l).mask (standing_low t small) (marks_low l).0)
       ∙ stands_tells l
 
   -- the place stands in bits of its own
-  first_tells : (l : Line) → eqb (bit_and (head_of t) (first_mark l).mask) (first_mark l).bytes ≡ is_first l t
+  pub first_tells : (l : Line) → eqb (bit_and (head_of t) (first_mark l).mask) (first_mark l).bytes ≡ is_first l t
   first_tells l =
       let behind = t.place + 256 * (bit t.full + 256 * outcome_byte t.outcome) in
       let m = (mark_of l).mask in
@@ -198,6 +199,15 @@ module _ (t : Thread) (small : Small t) where
         | isnt e ↦ rw e (ne_eqb (q * 1099511627776 + x) (b + 1099511627776) (λ d. eqb-false x b e (omega arith)))
       ]
 
+-- THE MARK OF A NUMBER
+
+-- an object that no byte can name
+pub beyond : (l : Line) (n : ℕ) → n ≡ line_number l → 255 < (n - 1) / 3 → nobody ≡ mark_of l
+beyond nowhere n e h = refl
+beyond (ready p) n e h = rw (lt-leb p 255 (omega arith))
+beyond (waiters k) n e h = rw (lt-leb k 255 (omega arith))
+beyond (senders i) n e h = rw (lt-leb i 255 (omega arith))
+
 -- THE RECORD
 
 -- a record's first eight bytes are what the thread that it says has there
@@ -206,7 +216,7 @@ module _ {t : List ℕ} {s : State} (holds : Holds t s) (byte : (k : ℕ) → ge
   unfolding encode
   field k h = ap (λ l. get_or l (i * record_length + k) 0) holds.bytes ∙ thread_byte (holds_on holds) (ready_word s.threads) i k ((has_thread (holds_whole holds).long i).0 inside) h
 
-  small : Small (at s.threads i)
+  pub small : Small (at s.threads i)
   unfolding thread_row
   small = record {
     priority = omega (arith, byte (i * record_length + 1), field 1 (omega arith));
@@ -214,7 +224,7 @@ module _ {t : List ℕ} {s : State} (holds : Holds t s) (byte : (k : ℕ) → ge
     place = omega (arith, byte (i * record_length + 5), field 5 (omega arith));
   }
 
-  head_said : long_at t (i * record_length) ≡ head_of (at s.threads i)
+  pub head_said : long_at t (i * record_length) ≡ head_of (at s.threads i)
   unfolding thread_row
   head_said =
       let base = i * record_length in

@@ -1,12 +1,13 @@
 -- Numbers tell lines apart: a thread stands in a line exactly when the two have one number that is not 0. Assumes nothing.
 use mathlib.Core.Path.{◌≡◌, refl, sym, ◌∙◌}
 use mathlib.Core.Bool.{false}
-use Prim.Native.Nat.{ℕ, ◌+◌, ◌*◌}
+use Prim.Native.Nat.{ℕ, zero, suc, ◌+◌, ◌*◌, ◌/◌, ◌%◌, ◌<◌}
 use native.Mathlib.Omega.{arith}
 use borrow.Author.Tests.{eq-eqb, ne_eqb, eqb-true, eqb-false}
 use lib.Dec.{eqb}
 use Rattle.rules.specs.Lines.{Line, nowhere, ready, waiters, senders, same}
 use Rattle.laws.proofs.Split.{is, isnt, test}
+use Rattle.laws.proofs.Lines.{same_eq}
 use Rattle.marks.specs.Numbers.{line_number}
 
 -- numbers that are equal exactly when two others are
@@ -42,3 +43,25 @@ same_number (senders p) nowhere h = apart (3 * p + 3) 0 (omega arith)
 same_number (senders p) (ready q) h = apart (3 * p + 3) (3 * q + 1) (omega arith)
 same_number (senders p) (waiters q) h = apart (3 * p + 3) (3 * q + 2) (omega arith)
 same_number (senders p) (senders q) h = scaled p q 3
+
+-- a number that is 0 is that of no line
+pub none_of : (l : Line) → 0 ≡ line_number l → l ≡ nowhere
+none_of nowhere h = refl
+none_of (ready p) h = absurd (omega arith)
+none_of (waiters p) h = absurd (omega arith)
+none_of (senders p) h = absurd (omega arith)
+
+-- any other is that of one line alone
+pub same_line : (a b : Line) → (line_number a ≡ 0 → ⊥) → line_number a ≡ line_number b → a ≡ b
+same_line a b h e = same_eq a b (same_number a b h ∙ eq-eqb _ _ e)
+
+-- every number is that of a line, so that a promise for every line of a number is one for every number
+pub numbered : (n : ℕ) → (l : Line) × (n ≡ line_number l)
+numbered n = pick (n / 3) (n % 3) (omega arith) (omega arith)
+  where
+    pick : (q k : ℕ) → n ≡ 3 * q + k → k < 3 → (l : Line) × (n ≡ line_number l)
+    pick zero zero e h = (nowhere, omega arith)
+    pick (suc q) zero e h = (senders q, omega arith)
+    pick q (suc zero) e h = (ready q, omega arith)
+    pick q (suc (suc zero)) e h = (waiters q, omega arith)
+    pick q (suc (suc (suc k))) e h = absurd (omega arith)

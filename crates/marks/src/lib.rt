@@ -83,7 +83,7 @@ const READY: u64 = 1099511627775;
 const WAITING: u64 = 255 + 65535 * 16777216;
 
 // The mark of a line.
-pub fn mark_of(line: Line) -> Mark
+pub fn line_mark(line: Line) -> Mark
     ensures { result ≡ mark_of (named line) }
 {
     match line {
@@ -102,11 +102,33 @@ pub fn mark_of(line: Line) -> Mark
     }
 }
 
+// No record has this mark.
+const NOBODY: Mark = Mark { mask: 0, bytes: 1 };
+
+// The mark of the line of that number. In line 0 nobody stands, nor in one whose object no byte can name.
+pub fn mark_of(line: u16) -> Mark
+    ensures { (l : _) → line ≡ line_number l → result ≡ mark_of l }
+{
+    if line == 0 {
+        return NOBODY;
+    }
+    let object = (line - 1) / 3;
+    if object > 255 {
+        return NOBODY;
+    }
+    let object = object as u8;
+    match (line - 1) % 3 {
+        0 => line_mark(Line::Ready { priority: object }),
+        1 => line_mark(Line::Waiters { semaphore: object }),
+        _ => line_mark(Line::Senders { thread: object }),
+    }
+}
+
 // The mark of the line's first thread.
 pub fn first_mark(line: Line) -> Mark
     ensures { result ≡ first_mark (named line) }
 {
-    let m = mark_of(line);
+    let m = line_mark(line);
     Mark {
         mask: m.mask + 255 * 1099511627776,
         bytes: m.bytes + 1099511627776,

@@ -12,7 +12,7 @@ use rules::MOST_THREADS;
 use std::marker::Model;
 
 // The entries that a ring has room for, on whatever board.
-const RING: usize = 2 * MOST_THREADS;
+pub const RING: usize = 2 * MOST_THREADS;
 
 // What is noted of the threads. Two arrays of bytes and not one of pairs: so all threads are asked at once, in vectors. How many threads
 // there are is handed over and does not stand here: so the compiler knows it.
@@ -125,4 +125,21 @@ impl Noted {
         }
         !bad
     }
+}
+
+// The same of what is noted in two slices that are lent. A loop of its own: in the kernel it is the struct's arrays that all threads are asked
+// of at once.
+pub fn all_placed(lines: &mut [u8], places: &mut [u8], n: usize) -> bool
+    requires { Ring n lines.old × Ring n places.old }
+    ensures answer { result ≡ all_below n (placed n lines.old places.old) }
+    ensures lines { lines.new ≡ closed n lines.old }
+    ensures places { places.new ≡ closed n places.old }
+{
+    lines.copy_within(0..n, n);
+    places.copy_within(0..n, n);
+    let mut bad = false;
+    for j in 0..n {
+        bad |= misplaced_at(lines, places, n, j);
+    }
+    !bad
 }

@@ -32,7 +32,7 @@ pub fn ready_bit(th: Thread) -> u32
 }
 
 // Thread `i` leaves its line, and whoever stands behind it moves up. If it stood alone in a ready line, that line's bit is given back, else 0.
-fn leave(t: &mut [u8], i: usize) -> u32
+pub fn leave(t: &mut [u8], i: usize) -> u32
     requires { HasThread t.old i × Whole t.old }
     ensures left { (s : State) → said t.new ≡ s → result ≡ last_bit i s.threads }
     ensures table { Becomes t.old t.new (on_threads (leave i)) }

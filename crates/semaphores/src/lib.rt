@@ -75,7 +75,7 @@ pub fn drop_semaphore(t: &mut [u8], k: u8) -> Answer
 {
     in_use(t, k)?;
     let line = Line::Waiters { semaphore: k };
-    let n = lines::line_length(t, line);
+    let n = lines::length(t, line);
     waiting::serve(t, n, line, Outcome::Failed);
     records::set_sem(
         t,
@@ -134,7 +134,7 @@ pub fn post(t: &mut [u8], k: u8, n: u32) -> Answer
 {
     let e = in_use(t, k)?;
     let line = Line::Waiters { semaphore: k };
-    let served = n.min(u32::from(lines::line_length(t, line)));
+    let served = n.min(u32::from(lines::length(t, line)));
     let over = n - served;
     if too_many(e.count, n, over) {
         return Err(Refusal::BadOperation);

@@ -37,7 +37,7 @@ pub fn delete_thread(t: &mut [u8], i: u8)
 {
     let k = usize::from(i);
     let line = Line::Senders { thread: i };
-    let n = lines::line_length(t, line);
+    let n = lines::length(t, line);
     ready::moved(t, k, |t| records::free_thread(t, k));
     waiting::serve(t, n, line, Outcome::Failed);
 }

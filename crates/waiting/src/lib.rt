@@ -65,7 +65,7 @@ fn serve_first(t: &mut [u8], line: Line, outcome: Outcome)
     requires { Whole t.old }
     ensures { Becomes t.old t.new (on_threads (serve 1 (named line) outcome)) }
 {
-    if let Some(i) = lines::first_of(t, line) {
+    if let Some(i) = lines::first_if_any(t, line) {
         end_wait(t, i, outcome, 0);
     }
 }

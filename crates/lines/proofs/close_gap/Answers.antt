@@ -33,7 +33,7 @@ loop-j-preserved c =
     let j = c.loop-j.j in
     let turn = c.move_up-power.ensures in
     let before = c.loop-j.invariant in
-    let mark = c.mark_of-m.ensures in (
+    let mark = c.line_mark-m.ensures in (
       omega arith,
       omega (arith, turn.bounds.0, before.1),
       rw add-one (omega (arith, turn.bounds.1, before.2, pow-suc 2 j)),

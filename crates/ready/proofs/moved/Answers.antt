@@ -36,16 +36,18 @@ join-requires g c =
     let there = changed g (goal.at.join-requires g c).After-change by.0 by.1 in
     (omega (arith, inside, c.change.auto, c.mend.auto), (mended left.table.whole c.args.i inside by.0 there left.left c.mend.ensures).whole)
 
-pub returns : goal.returns
+pub returns-clause-place : goal.returns-clause-place
+returns-clause-place g c = λ s e.
+    let i = c.args.i in
+    let inside : HasThread c.leave-left.new.t i = omega (arith, c.requires.table.0, c.leave-left.auto) in
+    let by = c.requires.change in
+    let there = mended c.leave-left.ensures.table.whole i inside by.0 (changed g (goal.at.returns-clause-place g c).After-change by.0 by.1) c.leave-left.ensures.left c.mend.ensures in
+    omega (arith, joined i (omega (arith, inside, c.change.auto, c.mend.auto)) there.whole c.join.ensures.place c.join.ensures.table s e)
+
+pub returns-clause-table : goal.returns-clause-table
 unfolding move
-returns g c =
+returns-clause-table g c = λ rule p.
     let i = c.args.i in
     let inside : HasThread c.leave-left.new.t i = omega (arith, c.requires.table.0, c.leave-left.auto) in
     let left = c.leave-left.ensures in
-    let there = λ (rule : Thread → Thread) (p : ChangesThread g.F.FnOnce c.args.change i rule). mended left.table.whole i inside rule (changed g (goal.at.returns g c).After-change rule p) left.left c.mend.ensures in
-    let by = c.requires.change in
-    record {
-      place = joined i (omega (arith, inside, c.change.auto, c.mend.auto)) (there by.0 by.1).whole c.join.ensures.place c.join.ensures.table;
-      whole = c.join.ensures.table.whole;
-      table = λ rule p. left.table ⨾ there rule p ⨾ c.join.ensures.table;
-    }
+    left.table ⨾ mended left.table.whole i inside rule (changed g (goal.at.returns-clause-table g c).After-change rule p) left.left c.mend.ensures ⨾ c.join.ensures.table

@@ -12,4 +12,4 @@ set_sem-requires c = (omega (arith, c.in_ok-in_use.ensures.on_board, c.serve.aut
 pub returns : goal.returns
 unfolding do_drop
 returns c =
-    then_does (c.serve.ensures ⨾ c.set_sem.ensures) c.accept.ensures (λ s h. rw (← c.line_length-n.ensures s h.says) (search rules))
+    then_does (c.serve.ensures ⨾ c.set_sem.ensures) c.accept.ensures (λ s h. rw (← c.length-n.ensures s h.says) (search rules))

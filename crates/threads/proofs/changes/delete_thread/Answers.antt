@@ -16,4 +16,4 @@ unfolding deleted
 returns c =
     let i = c.args.i in
     becomes_as (c.moved.ensures.table (λ x. free) (record { callable = λ t h w. search rules; changes = λ t u h w r. search rules }) ⨾ c.serve.ensures)
-    (λ s h. rw (c.from-k.ensures, c.line_length-n.ensures s h.says))
+    (λ s h. rw (c.from-k.ensures, c.length-n.ensures s h.says))
