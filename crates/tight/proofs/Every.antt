@@ -1,6 +1,6 @@
 -- Each public function's own promise is tight: it is a family of equations with what the table says, and a table says one state; every number
 -- is that of one line; a text that is put somewhere is put there. Assumes nothing.
-use Rattle.std.specs.Prelude.{ℕ, Result, Ok, Err, is_err}
+use Rattle.std.specs.Prelude.{ℕ, List, Result, Ok, Err, is_err}
 use mathlib.Core.Bool.{true≢false}
 use mathlib.Core.Path.{◌≡◌, refl, ap, sym, ◌∙◌}
 use native.Mathlib.Omega.{arith}
@@ -9,14 +9,20 @@ use Rattle.laws.proofs.Word.{power_low}
 use Rattle.layout.specs.Held.{said}
 use Rattle.layout.proofs.Held.{whole_holds, becomes_one, whole_laid, laid_shows, changes_one}
 use Rattle.marks.proofs.Named.{one_line}
+use Rattle.marks.proofs.Numbered.{numbered}
 use Rattle.waiting.proofs.Doing.{does_one}
 use Rattle.places.specs.Rings.{Entries}
+use Rattle.text.specs.Puts.{Puts}
 use Rattle.writer.specs.Places.{reached}
 use Rattle.tight.specs.Each.{Each}
 
 -- what was lent first is the same, and nothing else was
 first : {A B : Type 0} {x x' : A} {y : B} → x ≡ x' → ◌≡◌ {A = A × B} (x, y) (x', y)
 first {y} e = λ j. (e j, y)
+
+-- a text that is put somewhere is put there, and ends there
+puts_tight : {entry exit exit' text : List ℕ} {at next next' : ℕ} → Puts entry at text exit next → Puts entry at text exit' next' → (exit ≡ exit') × (next ≡ next')
+puts_tight p q = (p.bytes ∙ sym q.bytes, p.place ∙ sym q.place)
 
 -- what is noted is both lists
 noted_one : {x y : Entries} → x.lines ≡ y.lines → x.places ≡ y.places → x ≡ y
@@ -31,6 +37,10 @@ same_result (Err m) (Err n) e k = ap Err e
 
 pub each : Each
 each = record {
+  -- rules
+  rules_i32_from_refusal = λ κs a z z' ws ws' h p q. (p ∙ sym q, refl);
+  rules_outcome_from_u8 = λ κs a z z' ws ws' h p q. (p ∙ sym q, refl);
+  rules_u8_from_outcome = λ κs a z z' ws ws' h p q. (p ∙ sym q, refl);
   -- boards
   boards_is_long = λ κs a z z' ws ws' h p q. (pass_together _ _ (λ e. q.1 (p.0 e), λ e. p.1 (q.0 e)), refl);
   boards_kernel_from = λ κs a z z' ws ws' h p q. (p.0 ∙ sym q.0, refl);
@@ -72,12 +82,15 @@ each = record {
   -- marks
   marks_first_mark = λ κs a z z' ws ws' h p q. (p ∙ sym q, refl);
   marks_line_of = λ κs a z z' ws ws' h p q. (one_line (p ∙ sym q), refl);
-  marks_mark_of = λ κs a z z' ws ws' h p q. (p ∙ sym q, refl);
+  marks_line_mark = λ κs a z z' ws ws' h p q. (p ∙ sym q, refl);
+  marks_mark_of = λ κs a z z' ws ws' h p q. let l = numbered a.0 in (p l.0 l.1 ∙ sym (q l.0 l.1), refl);
   marks_number_of = λ κs a z z' ws ws' h p q. (p ∙ sym q, refl);
   marks_has_mark = λ κs a z z' ws ws' h p q. (p.0 ∙ sym q.0, refl);
   -- lines
-  lines_first_of = λ κs a z z' ws ws' h p q. (p.1 _ refl ∙ sym (q.1 _ refl), refl);
-  lines_line_length = λ κs a z z' ws ws' h p q. (p _ refl ∙ sym (q _ refl), refl);
+  lines_first_if_any = λ κs a z z' ws ws' h p q. (p.1 _ refl ∙ sym (q.1 _ refl), refl);
+  lines_first_of = λ κs a z z' ws ws' h p q. let l = numbered a.1.0 in (p _ l.0 refl l.1 ∙ sym (q _ l.0 refl l.1), refl);
+  lines_length = λ κs a z z' ws ws' h p q. (p _ refl ∙ sym (q _ refl), refl);
+  lines_line_length = λ κs a z z' ws ws' h p q. let l = numbered a.1.0 in (p _ l.0 refl l.1 ∙ sym (q _ l.0 refl l.1), refl);
   lines_fill = λ κs a z z' ws ws' h p q. (refl, first (becomes_one h.1 p q));
   lines_in_rank = λ κs a z z' ws ws' h p q. (p ∙ sym q, refl);
   lines_is_ready = λ κs a z z' ws ws' h p q. (p ∙ sym q, refl);
@@ -86,6 +99,7 @@ each = record {
   lines_to_tail = λ κs a z z' ws ws' h p q. (refl, first (becomes_one h.1 p q));
   -- ready
   ready_highest = λ κs a z z' ws ws' h p q. (omega (arith, power_low _ _ _ p.1 q.2, power_low _ _ _ q.1 p.2), refl);
+  ready_leave = λ κs a z z' ws ws' h p q. let e = becomes_one h.1 p.1 q.1 in (p.0 _ refl ∙ sym (q.0 _ (ap said (sym e))), first e);
   ready_moved = λ F l g d e κs a z z' ws ws' h p q. let same = becomes_one h.1.0.1 (p.1.1 h.1.1.0 h.1.1.1) (q.1.1 h.1.1.0 h.1.1.1) in (p.0 _ refl ∙ sym (q.0 _ (ap said (sym same))), first same);
   ready_ready_bit = λ κs a z z' ws ws' h p q. (p ∙ sym q, refl);
   ready_settle = λ κs a z z' ws ws' h p q. (refl, first (becomes_one h p q));
@@ -96,7 +110,8 @@ each = record {
   canon_thread_canon = λ κs a z z' ws ws' h p q. (p ∙ sym q, refl);
   canon_thread_zero = λ κs a z z' ws ws' h p q. (p ∙ sym q, refl);
   -- places
-  places_all_placed = λ κs a z z' ws ws' h p q. (p.0 ∙ sym q.0, first (noted_one (p.1.0 ∙ sym q.1.0) (p.1.1 ∙ sym q.1.1)));
+  places_all_placed = λ κs a z z' ws ws' h p q. (p.0 ∙ sym q.0, λ j. ((p.1.0 ∙ sym q.1.0) j, first (p.1.1 ∙ sym q.1.1) j));
+  places_noted_all_placed = λ κs a z z' ws ws' h p q. (p.0 ∙ sym q.0, first (noted_one (p.1.0 ∙ sym q.1.0) (p.1.1 ∙ sym q.1.1)));
   places_new = λ κs a z z' ws ws' h p q. (noted_one (p.0 ∙ sym q.0) (p.1 ∙ sym q.1), refl);
   places_note = λ κs a z z' ws ws' h p q. (refl, first (noted_one (p.0 ∙ sym q.0) (p.1 ∙ sym q.1)));
   -- sound
@@ -168,26 +183,47 @@ each = record {
   text_put_field = λ N f κs a z z' ws ws' h p q. (refl, first (p ∙ sym q));
   text_put_line = λ N f κs a z z' ws ws' h p q. (refl, first (p.0 ∙ sym q.0));
   text_put_number = λ N f κs a z z' ws ws' h p q. (refl, first (p ∙ sym q));
-  text_put_short = λ N f κs a z z' ws ws' h p q. (refl, first (p.0 ∙ sym q.0));
+  text_put_short = λ κs a z z' ws ws' h p q. let d = puts_tight p.0 q.0 in (d.1, first d.0);
+  text_put_short_line = λ N f κs a z z' ws ws' h p q. (refl, first (p.0 ∙ sym q.0));
   text_put_signed = λ N f κs a z z' ws ws' h p q. (refl, first (p ∙ sym q));
   -- writer
-  writer_refuse = λ N f κs a z z' ws ws' h p q. (refl, λ j. (ws.0, (ws.1.0, ((p.0 ∙ sym q.0) j, ws.1.1.1))));
-  writer_turn = λ N M f g κs a z z' ws ws' h p q. (
+  writer_put_refusal = λ N f κs a z z' ws ws' h p q. (refl, λ j. (ws.0, (ws.1.0, ((p.0 ∙ sym q.0) j, ws.1.1.1))));
+  writer_refuse = λ κs a z z' ws ws' h p q. let d = puts_tight p.0 q.0 in (d.1, λ j. (ws.0, (ws.1.0, (ws.1.1.0, (d.0 j, ws.1.1.1.1)))));
+  writer_turn = λ κs a z z' ws ws' h p q. let d = puts_tight p.1.1.1.1.1.0 q.1.1.1.1.1.0 in (
+    λ j. record {
+      number = (p.0 ∙ sym q.0) j;
+      held = (p.1.1.1.0 ∙ sym q.1.1.1.0) j;
+      next = d.1 j;
+      stopped = (p.1.1.0 ∙ sym q.1.1.0) j;
+    },
+    λ j. (ws.0, (ws.1.0, ((p.1.1.1.1.0 ∙ sym q.1.1.1.1.0) j, (ws.1.1.1.0, (d.0 j, ws.1.1.1.1.1))))),
+  );
+  writer_turn_part = λ N M f g κs a z z' ws ws' h p q. (
     same_result z z' (p.0 ∙ sym q.0) (p.1.1.0 ∙ sym q.1.1.0),
     λ j. (ws.0, (ws.1.0, ((p.1.1.1.0 ∙ sym q.1.1.1.0) j, ((p.1.1.1.1.0 ∙ sym q.1.1.1.1.0) j, ws.1.1.1.1)))),
   );
   -- replay
-  replay_finish = λ N f κs a z z' ws ws' h p q. (refl, λ j. (ws.0, ((p.0 ∙ sym q.0) j, ws.1.1)));
+  replay_put_end = λ N f κs a z z' ws ws' h p q. (refl, λ j. (ws.0, ((p.0 ∙ sym q.0) j, ws.1.1)));
+  replay_finish = λ κs a z z' ws ws' h p q. let d = puts_tight p.0 q.0 in (d.1, λ j. (ws.0, (d.0 j, ws.1.1)));
   replay_fresh = λ κs a z z' ws ws' h p q. (p ∙ sym q, refl);
-  replay_serve = λ N M f g κs a z z' ws ws' h p q. (
+  replay_serve = λ κs a z z' ws ws' h p q. let d = puts_tight p.0.lines q.0.lines in (
+    λ j. record { number = (p.1.0 ∙ sym q.1.0) j; held = (p.1.1.0 ∙ sym q.1.1.0) j; next = d.1 j },
+    λ j. ((p.0.table ∙ sym q.0.table) j, (ws.1.0, ((p.1.1.1 ∙ sym q.1.1.1) j, (ws.1.1.1.0, (d.0 j, ws.1.1.1.1.1))))),
+  );
+  replay_serve_part = λ N M f g κs a z z' ws ws' h p q. (
     p.1.0 ∙ sym q.1.0,
     λ j. ((p.0.table ∙ sym q.0.table) j, (ws.1.0, ((p.1.1 ∙ sym q.1.1) j, ((p.0.lines ∙ sym q.0.lines) j, ws.1.1.1.1)))),
   );
   -- accounts
-  accounts_serve = λ N f κs a z z' ws ws' h p q. (
+  accounts_serve = λ κs a z z' ws ws' h p q. (
+    λ j. record { number = (p.0.0 ∙ sym q.0.0) j; held = (p.0.1 ∙ sym q.0.1) j },
+    λ j. ((p.1.0 ∙ sym q.1.0) j, ((p.1.1.0 ∙ sym q.1.1.0) j, (ws.1.1.0, ((p.1.1.1 ∙ sym q.1.1.1) j, ws.1.1.1.1)))),
+  );
+  accounts_serve_part = λ N f κs a z z' ws ws' h p q. (
     p.0 ∙ sym q.0,
     λ j. ((p.1.0 ∙ sym q.1.0) j, ((p.1.1.0 ∙ sym q.1.1.0) j, (ws.1.1.0, ((p.1.1.1 ∙ sym q.1.1.1) j, ws.1.1.1.1)))),
   );
   -- lags
-  lags_put_report = λ N f κs a z z' ws ws' h p q. (refl, λ j. (ws.0, (ws.1.0, (ws.1.1.0, ((p.0 ∙ sym q.0) j, ws.1.1.1.1)))));
+  lags_put_lanes = λ N f κs a z z' ws ws' h p q. (refl, λ j. (ws.0, (ws.1.0, (ws.1.1.0, ((p.0 ∙ sym q.0) j, ws.1.1.1.1)))));
+  lags_put_report = λ κs a z z' ws ws' h p q. let d = puts_tight p.0 q.0 in (d.1, λ j. (ws.0, (ws.1.0, (ws.1.1.0, (d.0 j, ws.1.1.1.1)))));
 }

@@ -4,6 +4,7 @@ use mir.Val.{Fits}
 use mir.Syntax.{w64, Dict}
 use denote.RattleType.{RattleType}
 use denote.Param.Laws.{Laws}
+use Rattle.rules.proofs as rules
 use Rattle.boards.proofs as boards
 use Rattle.words.proofs as words
 use Rattle.records.proofs as records
@@ -32,6 +33,10 @@ use Rattle.lags.proofs as lags
 use Rattle.tight.specs.Promise.{Determines, DeterminesBehind}
 
 pub record Each : Type 2 where
+  -- rules
+  pub rules_i32_from_refusal : Determines rules.codes.I32FromRefusal.from.Kinds.ps rules.codes.I32FromRefusal.from.Kinds.r rules.codes.I32FromRefusal.from.Reads.Pre rules.codes.I32FromRefusal.from.Reads.Post
+  pub rules_outcome_from_u8 : Determines rules.codes.OutcomeFromU8.from.Kinds.ps rules.codes.OutcomeFromU8.from.Kinds.r rules.codes.OutcomeFromU8.from.Reads.Pre rules.codes.OutcomeFromU8.from.Reads.Post
+  pub rules_u8_from_outcome : Determines rules.codes.U8FromOutcome.from.Kinds.ps rules.codes.U8FromOutcome.from.Kinds.r rules.codes.U8FromOutcome.from.Reads.Pre rules.codes.U8FromOutcome.from.Reads.Post
   -- boards
   pub boards_is_long : Determines boards.is_long.Kinds.ps boards.is_long.Kinds.r boards.is_long.Reads.Pre boards.is_long.Reads.Post
   pub boards_kernel_from : Determines boards.kernel_from.Kinds.ps boards.kernel_from.Kinds.r boards.kernel_from.Reads.Pre boards.kernel_from.Reads.Post
@@ -74,19 +79,23 @@ pub record Each : Type 2 where
   pub marks_first_mark : Determines marks.first_mark.Kinds.ps marks.first_mark.Kinds.r marks.first_mark.Reads.Pre marks.first_mark.Reads.Post
   pub marks_has_mark : Determines marks.has_mark.Kinds.ps marks.has_mark.Kinds.r marks.has_mark.Reads.Pre marks.has_mark.Reads.Post
   pub marks_line_of : Determines marks.line_of.Kinds.ps marks.line_of.Kinds.r marks.line_of.Reads.Pre marks.line_of.Reads.Post
+  pub marks_line_mark : Determines marks.line_mark.Kinds.ps marks.line_mark.Kinds.r marks.line_mark.Reads.Pre marks.line_mark.Reads.Post
   pub marks_mark_of : Determines marks.mark_of.Kinds.ps marks.mark_of.Kinds.r marks.mark_of.Reads.Pre marks.mark_of.Reads.Post
   pub marks_number_of : Determines marks.number_of.Kinds.ps marks.number_of.Kinds.r marks.number_of.Reads.Pre marks.number_of.Reads.Post
   -- lines
   pub lines_fill : Determines lines.fill.Kinds.ps lines.fill.Kinds.r lines.fill.Reads.Pre lines.fill.Reads.Post
+  pub lines_first_if_any : Determines lines.first_if_any.Kinds.ps lines.first_if_any.Kinds.r lines.first_if_any.Reads.Pre lines.first_if_any.Reads.Post
   pub lines_first_of : Determines lines.first_of.Kinds.ps lines.first_of.Kinds.r lines.first_of.Reads.Pre lines.first_of.Reads.Post
   pub lines_in_rank : Determines lines.in_rank.Kinds.ps lines.in_rank.Kinds.r lines.in_rank.Reads.Pre lines.in_rank.Reads.Post
   pub lines_is_ready : Determines lines.is_ready.Kinds.ps lines.is_ready.Kinds.r lines.is_ready.Reads.Pre lines.is_ready.Reads.Post
   pub lines_join : Determines lines.join.Kinds.ps lines.join.Kinds.r lines.join.Reads.Pre lines.join.Reads.Post
   pub lines_leave : Determines lines.leave.Kinds.ps lines.leave.Kinds.r lines.leave.Reads.Pre lines.leave.Reads.Post
+  pub lines_length : Determines lines.length.Kinds.ps lines.length.Kinds.r lines.length.Reads.Pre lines.length.Reads.Post
   pub lines_line_length : Determines lines.line_length.Kinds.ps lines.line_length.Kinds.r lines.line_length.Reads.Pre lines.line_length.Reads.Post
   pub lines_to_tail : Determines lines.to_tail.Kinds.ps lines.to_tail.Kinds.r lines.to_tail.Reads.Pre lines.to_tail.Reads.Post
   -- ready
   pub ready_highest : Determines ready.highest.Kinds.ps ready.highest.Kinds.r ready.highest.Reads.Pre ready.highest.Reads.Post
+  pub ready_leave : Determines ready.leave.Kinds.ps ready.leave.Kinds.r ready.leave.Reads.Pre ready.leave.Reads.Post
   pub ready_moved : (F : RattleType) (l : Laws F) (g : _) (d e : Dict) → Determines (ready.moved.Kinds.ps F l) (ready.moved.Kinds.r F l) (ready.moved.Reads.Pre F l g d e) (ready.moved.Reads.Post F l g d e)
   pub ready_ready_bit : Determines ready.ready_bit.Kinds.ps ready.ready_bit.Kinds.r ready.ready_bit.Reads.Pre ready.ready_bit.Reads.Post
   pub ready_settle : Determines ready.settle.Kinds.ps ready.settle.Kinds.r ready.settle.Reads.Pre ready.settle.Reads.Post
@@ -97,7 +106,8 @@ pub record Each : Type 2 where
   pub canon_thread_canon : Determines canon.thread_canon.Kinds.ps canon.thread_canon.Kinds.r canon.thread_canon.Reads.Pre canon.thread_canon.Reads.Post
   pub canon_thread_zero : Determines canon.thread_zero.Kinds.ps canon.thread_zero.Kinds.r canon.thread_zero.Reads.Pre canon.thread_zero.Reads.Post
   -- places
-  pub places_all_placed : Determines places.Noted.all_placed.Kinds.ps places.Noted.all_placed.Kinds.r places.Noted.all_placed.Reads.Pre places.Noted.all_placed.Reads.Post
+  pub places_all_placed : Determines places.all_placed.Kinds.ps places.all_placed.Kinds.r places.all_placed.Reads.Pre places.all_placed.Reads.Post
+  pub places_noted_all_placed : Determines places.Noted.all_placed.Kinds.ps places.Noted.all_placed.Kinds.r places.Noted.all_placed.Reads.Pre places.Noted.all_placed.Reads.Post
   pub places_new : Determines places.Noted.new.Kinds.ps places.Noted.new.Kinds.r places.Noted.new.Reads.Pre places.Noted.new.Reads.Post
   pub places_note : Determines places.Noted.note.Kinds.ps places.Noted.note.Kinds.r places.Noted.note.Reads.Pre places.Noted.note.Reads.Post
   -- sound
@@ -165,16 +175,23 @@ pub record Each : Type 2 where
   pub text_put_field : (N : ℕ) (f : Fits w64 N) → Determines (text.put_field.Kinds.ps N f) (text.put_field.Kinds.r N f) (text.put_field.Reads.Pre N f) (text.put_field.Reads.Post N f)
   pub text_put_line : (N : ℕ) (f : Fits w64 N) → Determines (text.put_line.Kinds.ps N f) (text.put_line.Kinds.r N f) (text.put_line.Reads.Pre N f) (text.put_line.Reads.Post N f)
   pub text_put_number : (N : ℕ) (f : Fits w64 N) → Determines (text.put_number.Kinds.ps N f) (text.put_number.Kinds.r N f) (text.put_number.Reads.Pre N f) (text.put_number.Reads.Post N f)
-  pub text_put_short : (N : ℕ) (f : Fits w64 N) → Determines (text.put_short.Kinds.ps N f) (text.put_short.Kinds.r N f) (text.put_short.Reads.Pre N f) (text.put_short.Reads.Post N f)
+  pub text_put_short : Determines text.put_short.Kinds.ps text.put_short.Kinds.r text.put_short.Reads.Pre text.put_short.Reads.Post
+  pub text_put_short_line : (N : ℕ) (f : Fits w64 N) → Determines (text.put_short_line.Kinds.ps N f) (text.put_short_line.Kinds.r N f) (text.put_short_line.Reads.Pre N f) (text.put_short_line.Reads.Post N f)
   pub text_put_signed : (N : ℕ) (f : Fits w64 N) → Determines (text.put_signed.Kinds.ps N f) (text.put_signed.Kinds.r N f) (text.put_signed.Reads.Pre N f) (text.put_signed.Reads.Post N f)
   -- writer
-  pub writer_refuse : (N : ℕ) (f : Fits w64 N) → Determines (writer.refuse.Kinds.ps N f) (writer.refuse.Kinds.r N f) (writer.refuse.Reads.Pre N f) (writer.refuse.Reads.Post N f)
-  pub writer_turn : (N M : ℕ) (f : Fits w64 N) (g : Fits w64 M) → Determines (writer.turn.Kinds.ps N M f g) (writer.turn.Kinds.r N M f g) (writer.turn.Reads.Pre N M f g) (writer.turn.Reads.Post N M f g)
+  pub writer_put_refusal : (N : ℕ) (f : Fits w64 N) → Determines (writer.put_refusal.Kinds.ps N f) (writer.put_refusal.Kinds.r N f) (writer.put_refusal.Reads.Pre N f) (writer.put_refusal.Reads.Post N f)
+  pub writer_refuse : Determines writer.refuse.Kinds.ps writer.refuse.Kinds.r writer.refuse.Reads.Pre writer.refuse.Reads.Post
+  pub writer_turn : Determines writer.turn.Kinds.ps writer.turn.Kinds.r writer.turn.Reads.Pre writer.turn.Reads.Post
+  pub writer_turn_part : (N M : ℕ) (f : Fits w64 N) (g : Fits w64 M) → Determines (writer.turn_part.Kinds.ps N M f g) (writer.turn_part.Kinds.r N M f g) (writer.turn_part.Reads.Pre N M f g) (writer.turn_part.Reads.Post N M f g)
   -- replay
-  pub replay_finish : (N : ℕ) (f : Fits w64 N) → Determines (replay.finish.Kinds.ps N f) (replay.finish.Kinds.r N f) (replay.finish.Reads.Pre N f) (replay.finish.Reads.Post N f)
+  pub replay_finish : Determines replay.finish.Kinds.ps replay.finish.Kinds.r replay.finish.Reads.Pre replay.finish.Reads.Post
   pub replay_fresh : Determines replay.fresh.Kinds.ps replay.fresh.Kinds.r replay.fresh.Reads.Pre replay.fresh.Reads.Post
-  pub replay_serve : (N M : ℕ) (f : Fits w64 N) (g : Fits w64 M) → Determines (replay.serve.Kinds.ps N M f g) (replay.serve.Kinds.r N M f g) (replay.serve.Reads.Pre N M f g) (replay.serve.Reads.Post N M f g)
+  pub replay_put_end : (N : ℕ) (f : Fits w64 N) → Determines (replay.put_end.Kinds.ps N f) (replay.put_end.Kinds.r N f) (replay.put_end.Reads.Pre N f) (replay.put_end.Reads.Post N f)
+  pub replay_serve : Determines replay.serve.Kinds.ps replay.serve.Kinds.r replay.serve.Reads.Pre replay.serve.Reads.Post
+  pub replay_serve_part : (N M : ℕ) (f : Fits w64 N) (g : Fits w64 M) → Determines (replay.serve_part.Kinds.ps N M f g) (replay.serve_part.Kinds.r N M f g) (replay.serve_part.Reads.Pre N M f g) (replay.serve_part.Reads.Post N M f g)
   -- accounts
-  pub accounts_serve : (N : ℕ) (f : Fits w64 N) → Determines (accounts.serve.Kinds.ps N f) (accounts.serve.Kinds.r N f) (accounts.serve.Reads.Pre N f) (accounts.serve.Reads.Post N f)
+  pub accounts_serve : Determines accounts.serve.Kinds.ps accounts.serve.Kinds.r accounts.serve.Reads.Pre accounts.serve.Reads.Post
+  pub accounts_serve_part : (N : ℕ) (f : Fits w64 N) → Determines (accounts.serve_part.Kinds.ps N f) (accounts.serve_part.Kinds.r N f) (accounts.serve_part.Reads.Pre N f) (accounts.serve_part.Reads.Post N f)
   -- lags
-  pub lags_put_report : (N : ℕ) (f : Fits w64 N) → Determines (lags.put_report.Kinds.ps N f) (lags.put_report.Kinds.r N f) (lags.put_report.Reads.Pre N f) (lags.put_report.Reads.Post N f)
+  pub lags_put_lanes : (N : ℕ) (f : Fits w64 N) → Determines (lags.put_lanes.Kinds.ps N f) (lags.put_lanes.Kinds.r N f) (lags.put_lanes.Reads.Pre N f) (lags.put_lanes.Reads.Post N f)
+  pub lags_put_report : Determines lags.put_report.Kinds.ps lags.put_report.Kinds.r lags.put_report.Reads.Pre lags.put_report.Reads.Post
