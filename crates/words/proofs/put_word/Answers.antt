@@ -11,5 +11,5 @@ pub returns : goal.returns
 returns c =
     let w = c.args.word in
     let top : w / 16777216 % 256 ≡ w / 16777216 = omega (arith, c.ranges.word) in
-    let written : c.copy_from_slice.new.self ≡ word_bytes w = rw top at (c.copy_from_slice.ensures.after ∙ c.to_le_bytes.ensures) in
+    let written : c.copy_from_slice.new.self ≡ word_bytes w = rw top at (rw c.to_le_bytes.ensures at c.copy_from_slice.ensures.after) in
     put_mid-paste _ _ _ _ _ 4 written (omega arith) (omega arith) ∙ sym (sets-eq (word_bytes w) _ _ c.requires)
