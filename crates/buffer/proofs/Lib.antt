@@ -1,0 +1,2 @@
+-- What stands in a buffer's place.
+pub mod Place
