@@ -1,2 +1,2 @@
--- What stands in a buffer's place.
+-- A law of a buffer's place.
 pub mod Place

@@ -80,8 +80,8 @@ impl<const N: usize> Buffer<N> {
         ensures { self.new ≡ drop k self.old }
     {
         let held = self.len - k;
+        self.bytes.copy_within(k..self.len, 0);
         let place = &mut self.bytes[..];
-        place.copy_within(k..self.len, 0);
         place[held..self.len].fill(0);
         self.len = held;
     }

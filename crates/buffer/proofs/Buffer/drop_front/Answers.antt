@@ -19,10 +19,10 @@ invariant_of-self g c =
     let cleared : c.fill.new.self ≡ replicate (len - held) 0 = c.fill.ensures.after (λ y e. e) ∙ ap (λ n. replicate n 0) size in
     let same : held ≡ 0 + held = omega arith in
     let behind : drop held moved ≡ drop held all =
-        ap (drop held) c.copy_within.ensures.after
-        ∙ ap (λ k. drop k (paste all 0 (drop c.args.k all) held)) same ∙ drop-paste all 0 (drop c.args.k all) held (omega arith) (omega (arith, within, c.self.told, length-drop c.args.k all))
-        ∙ ap (λ k. drop k all) (sym same)
-        in
+    ap (drop held) c.copy_within.ensures.after
+    ∙ ap (λ k. drop k (paste all 0 (drop c.args.k all) held)) same ∙ drop-paste all 0 (drop c.args.k all) held (omega arith) (omega (arith, within, c.self.told, length-drop c.args.k all))
+    ∙ ap (λ k. drop k all) (sym same)
+    in
     (search rules, zeros_from g.row.N len held all moved c.fill.new.self (omega arith) within room cleared behind c.self.invariant.1)
 
 pub returns : goal.returns
