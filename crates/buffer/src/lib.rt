@@ -1,11 +1,11 @@
 // Bytes in a fixed place, of which the first are filled: what comes is put behind them, and what is done with leaves from the front.
 #![tactic(auto)]
 
-ghost use Rattle.std.specs.Prelude.{◌≡◌, ℕ, List, [], ◌∷◌, ◌++◌, ◌+◌, ◌≤◌, ◌<◌, length, take, drop};
+ghost use Rattle.std.specs.Prelude.{◌≡◌, ℕ, List, [], ◌∷◌, ◌++◌, ◌+◌, ◌≤◌, ◌<◌, ◌-◌, length, take, drop, replicate};
 
 use std::marker::Model;
 
-// At most `N` bytes, and how many of the place they fill. Its value is the bytes.
+// At most `N` bytes, and how many of the place they fill. Its value is the bytes: behind them the place has zeros, so that they determine all of it.
 #[derive(Drop)]
 pub struct Buffer<const N: usize> {
     bytes: [u8; N],
@@ -17,7 +17,7 @@ impl<const N: usize> Model for Buffer<N> {
 
     ghost view = { λ s. take s.len s.bytes };
 
-    ghost invariant = { λ s. s.len ≤ N };
+    ghost invariant = { λ s. (s.len ≤ N) × (drop s.len s.bytes ≡ replicate (N - s.len) 0) };
 }
 
 impl<const N: usize> Buffer<N> {
@@ -50,6 +50,7 @@ impl<const N: usize> Buffer<N> {
     pub fn clear(&mut self)
         ensures { self.new ≡ [] }
     {
+        self.bytes[..self.len].fill(0);
         self.len = 0;
     }
 
@@ -80,6 +81,8 @@ impl<const N: usize> Buffer<N> {
     {
         let held = self.len - k;
         self.bytes.copy_within(k..self.len, 0);
+        let place = &mut self.bytes[..];
+        place[held..self.len].fill(0);
         self.len = held;
     }
 }

@@ -1,0 +1,2 @@
+-- A law of a buffer's place.
+pub mod Place
