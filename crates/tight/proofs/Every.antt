@@ -13,6 +13,7 @@ use Rattle.marks.proofs.Numbered.{numbered}
 use Rattle.waiting.proofs.Doing.{does_one}
 use Rattle.places.specs.Rings.{Entries}
 use Rattle.text.specs.Puts.{Puts}
+use Rattle.buffer.proofs.Place.{same_place}
 use Rattle.writer.specs.Places.{reached}
 use Rattle.tight.specs.Each.{Each}
 
@@ -178,6 +179,7 @@ each = record {
   buffer_extend = λ N f κs a z z' ws ws' h p q. (refl, first (p ∙ sym q));
   buffer_len = λ N f κs a z z' ws ws' h p q. (p.0 ∙ sym q.0, refl);
   buffer_new = λ N f κs a z z' ws ws' h p q. (p ∙ sym q, refl);
+  buffer_place = same_place;
   buffer_push = λ N f κs a z z' ws ws' h p q. (refl, first (p ∙ sym q));
   -- text
   text_put_field = λ N f κs a z z' ws ws' h p q. (refl, first (p ∙ sym q));

@@ -1,5 +1,5 @@
 -- Every public function's own promise is tight: a field for each. The three functions over the trace reader stand in `Readers.antt`.
-use Rattle.std.specs.Prelude.{ℕ}
+use Rattle.std.specs.Prelude.{◌≡◌, ℕ, length}
 use mir.Val.{Fits}
 use mir.Syntax.{w64, Dict}
 use denote.RattleType.{RattleType}
@@ -30,6 +30,8 @@ use Rattle.writer.proofs as writer
 use Rattle.replay.proofs as replay
 use Rattle.accounts.proofs as accounts
 use Rattle.lags.proofs as lags
+use Rattle.buffer.specs.declared.Buffer.TheInside.{Inside}
+use Rattle.buffer.specs.declared.Buffer.TheView.{view, invariant}
 use Rattle.tight.specs.Promise.{Determines, DeterminesBehind}
 
 pub record Each : Type 2 where
@@ -170,6 +172,8 @@ pub record Each : Type 2 where
   pub buffer_extend : (N : ℕ) (f : Fits w64 N) → Determines (buffer.Buffer.extend.Kinds.ps N f) (buffer.Buffer.extend.Kinds.r N f) (buffer.Buffer.extend.Reads.Pre N f) (buffer.Buffer.extend.Reads.Post N f)
   pub buffer_len : (N : ℕ) (f : Fits w64 N) → Determines (buffer.Buffer.len.Kinds.ps N f) (buffer.Buffer.len.Kinds.r N f) (buffer.Buffer.len.Reads.Pre N f) (buffer.Buffer.len.Reads.Post N f)
   pub buffer_new : (N : ℕ) (f : Fits w64 N) → Determines (buffer.Buffer.new.Kinds.ps N f) (buffer.Buffer.new.Kinds.r N f) (buffer.Buffer.new.Reads.Pre N f) (buffer.Buffer.new.Reads.Post N f)
+  -- the bytes of a buffer determine its whole place: so a field that determines the one determines every byte that was lent
+  pub buffer_place : (N : ℕ) (a b : Inside N) → length a.bytes ≡ N → length b.bytes ≡ N → invariant N a → invariant N b → view N a ≡ view N b → a ≡ b
   pub buffer_push : (N : ℕ) (f : Fits w64 N) → Determines (buffer.Buffer.push.Kinds.ps N f) (buffer.Buffer.push.Kinds.r N f) (buffer.Buffer.push.Reads.Pre N f) (buffer.Buffer.push.Reads.Post N f)
   -- text
   pub text_put_field : (N : ℕ) (f : Fits w64 N) → Determines (text.put_field.Kinds.ps N f) (text.put_field.Kinds.r N f) (text.put_field.Reads.Pre N f) (text.put_field.Reads.Post N f)
