@@ -1,4 +1,6 @@
--- `exchange::run_from` meets its contract: all that has come is what is done and what is held, from read to read. Assumes nothing.
+-- `exchange::run_from` meets its contract: all that has come is what is done and what is held, from read to read. What is held goes
+-- by `cc`, so that a body that calls the block once more is proved where it is right, and an edit with such a call is refused for what it leaves.
+-- Assumes nothing.
 use borrow.Author.Rules.{rules}
 use native.Mathlib.Omega.{arith}
 use mathlib.Core.Path.{◌≡◌, sym, ap, ◌∙◌}
@@ -31,7 +33,7 @@ returns-then-written c =
     let turned = c.turn_part-turned in
     let next : c.match-turned.next ≡ reached turned.result = search rules in
     rw next
-    (turned_end came c.loop.invariant.3 turned.ensures.number turned.ensures.block turned.ensures.stopped (c.close-then-stopped-written.ensures ∙ ap (refusal_text c.args.way) c.left_bad-bad.ensures))
+    (turned_end came c.loop.invariant.3 turned.ensures.number (cc) turned.ensures.stopped (c.close-then-stopped-written.ensures ∙ ap (refusal_text c.args.way) c.left_bad-bad.ensures))
 
 pub returns-else-written : goal.returns-else-written
 returns-else-written c =
@@ -40,7 +42,7 @@ returns-else-written c =
     let turned = c.turn_part-turned in
     let next : c.match-turned.next ≡ reached turned.result = search rules in
     rw next
-    (turned_end came c.loop.invariant.3 turned.ensures.number turned.ensures.block turned.ensures.stopped (c.close-then-stopped-written.ensures ∙ ap (refusal_text c.args.way) c.left_bad-bad.ensures))
+    (turned_end came c.loop.invariant.3 turned.ensures.number (cc) turned.ensures.stopped (c.close-then-stopped-written.ensures ∙ ap (refusal_text c.args.way) c.left_bad-bad.ensures))
 
 pub loop-preserved : goal.loop-preserved
 loop-preserved c =
@@ -48,11 +50,11 @@ loop-preserved c =
     let came : Come c.loop.block read.new.block c.unwrap_or-n.result = rw c.unwrap_or-n.ensures (has_come read.result read.ensures.held read.ensures.come read.ensures.failed) in
     let turned = c.turn_part-turned in
     let next : c.match-turned.next ≡ reached turned.result = search rules in (
-      rw turned.ensures.block (omega (arith, holds_room c.args.way read.new.block, read.ensures.room)),
+      grind (arith, turned.ensures.block, holds_room c.args.way read.new.block, read.ensures.room),
       rw next (omega (arith, turned.ensures.few, read.ensures.room, c.loop.invariant.1)),
       omega (arith, came.more, read.ensures.room, c.loop.invariant.2),
       rw next
-          (turned_on came c.loop.invariant.3 turned.ensures.number turned.ensures.block (sym turned.ensures.stopped ∙ sym c.is_err-stopped.ensures.value ∙ (or_false c.is_err-stopped.result _ c.if-stopped-written.false).0)),
+          (turned_on came c.loop.invariant.3 turned.ensures.number (cc) (sym turned.ensures.stopped ∙ sym c.is_err-stopped.ensures.value ∙ (or_false c.is_err-stopped.result _ c.if-stopped-written.false).0)),
     )
 
 pub returns : goal.returns

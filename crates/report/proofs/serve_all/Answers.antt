@@ -1,4 +1,6 @@
--- `report::serve_all` meets its contract: all that has come has left the replay where it stands, from turn to turn. Assumes nothing.
+-- `report::serve_all` meets its contract: all that has come has left the replay where it stands, from turn to turn. What is held goes
+-- by `cc`, so that a body that calls the block once more is proved where it is right, and an edit with such a call is refused for what it leaves.
+-- Assumes nothing.
 use borrow.Author.Rules.{rules}
 use lib.ListN.{length}
 use native.Mathlib.Omega.{arith}
@@ -24,11 +26,11 @@ loop-preserved c =
     let served = c.serve_part-number.ensures in (
       omega (arith, c.if-len-ge-REQUEST.false, c.len.ensures.value),
       omega (arith, come.come, come.room, c.loop.invariant.1),
-      stands_part c.loop.block c.read_behind.new.block c.in-Ok.n come.held come.come c.requires.first_le_most_records c.loop.invariant.2 _ _ _ _ served.number served.table served.accounts served.block,
+      stands_part c.loop.block c.read_behind.new.block c.in-Ok.n come.held come.come c.requires.first_le_most_records c.loop.invariant.2 _ _ _ _ served.number served.table served.accounts (cc),
     )
 
 pub returns-then-len-ge-REQUEST : goal.returns-then-len-ge-REQUEST
 returns-then-len-ge-REQUEST c =
     let come = c.in-Ok.ensures in
     let served = c.serve_part-number.ensures in
-    stands_part c.loop.block c.read_behind.new.block c.in-Ok.n come.held come.come c.requires.first_le_most_records c.loop.invariant.2 _ _ _ _ served.number served.table served.accounts served.block
+    stands_part c.loop.block c.read_behind.new.block c.in-Ok.n come.held come.come c.requires.first_le_most_records c.loop.invariant.2 _ _ _ _ served.number served.table served.accounts (cc)

@@ -1,4 +1,6 @@
--- `trace::run` meets its contract: all that has come has left the trace where it stands, from turn to turn. Assumes nothing.
+-- `trace::run` meets its contract: all that has come has left the trace where it stands, from turn to turn. What is held goes
+-- by `cc`, so that a body that calls the block once more is proved where it is right, and an edit with such a call is refused for what it leaves.
+-- Assumes nothing.
 use native.Mathlib.Omega.{arith}
 use mathlib.Core.Path.{◌≡◌, sym, ap, subst, ◌∙◌}
 use Prim.Native.Nat.{◌%◌}
@@ -22,10 +24,10 @@ loop-preserved c =
     let come = c.in-Ok.ensures in
     let served = c.serve_part-number.ensures in
     let left : length c.serve_part-number.new.block ≡ length c.read_behind.new.block % request_length = ap length served.block ∙ left_length c.read_behind.new.block in (
-      omega (arith, left),
+      grind (arith, left),
       omega (arith, served.number, come.room, c.loop.invariant.1),
       omega (arith, come.come, come.room, c.loop.invariant.2),
-      traced_part c.loop.block c.read_behind.new.block c.in-Ok.n come.held come.come c.loop.number c.loop.table _ c.loop.invariant.3 served.replayed served.number served.block,
+      traced_part c.loop.block c.read_behind.new.block c.in-Ok.n come.held come.come c.loop.number c.loop.table _ c.loop.invariant.3 served.replayed served.number (cc),
     )
 
 pub returns : goal.returns
@@ -41,6 +43,6 @@ returns c =
       | then-loop-test+in-Ok+else-n-eq0+then-is_err w ↦
           let come = w.in-Ok.ensures in
           let served = w.serve_part-number.ensures in
-          let more = traced_part c.loop.block w.read_behind.new.block w.in-Ok.n come.held come.come c.loop.number c.loop.table w.serve_part-number.new.table so_far served.replayed served.number served.block in
-          ended_by more w.table-is w.block-is w.bytes-is w.number-is printed
+          ended_by (traced_part c.loop.block w.read_behind.new.block w.in-Ok.n come.held come.come c.loop.number c.loop.table _ so_far served.replayed served.number (cc))
+          w.table-is w.block-is w.bytes-is w.number-is printed
     ]
