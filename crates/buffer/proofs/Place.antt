@@ -19,7 +19,7 @@ same_place N a b whole whole' room room' same =
 fewer : (N n k : ℕ) (bytes : List ℕ) → drop n bytes ≡ replicate (N - n) 0 → drop (n + k) bytes ≡ replicate (N - (n + k)) 0
 fewer N n k bytes zeros =
     let left : N - n - k ≡ N - (n + k) = omega arith in
-    rw (← drop-drop k n bytes, zeros, drop-replicate k (N - n) 0) (ap (λ m. replicate m 0) left)
+    rw (← drop-drop k n bytes, zeros, drop-replicate {X = ℕ} k (N - n) 0) (ap (λ m. replicate m 0) left)
 
 -- so it is where a byte comes in place of the first zero
 pub fewer_by_one : (N n : ℕ) (bytes : List ℕ) (byte : ℕ) → drop n bytes ≡ replicate (N - n) 0 → drop (n + 1) (slice_set bytes n byte) ≡ replicate (N - (n + 1)) 0
