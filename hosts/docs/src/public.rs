@@ -143,7 +143,12 @@ fn methods_of_trait(line: &str) -> Option<String> {
     let (of_trait, of_type) = behind_impl(line)?.split_once(" for ")?;
     let of_type = identifier(of_type.trim_start());
     let words = of_trait.split(|c: char| !c.is_alphanumeric() && c != '_');
-    Some(std::iter::once(of_type.as_str()).chain(words).map(capital).collect())
+    Some(
+        std::iter::once(of_type.as_str())
+            .chain(words)
+            .map(capital)
+            .collect(),
+    )
 }
 
 /// A word with a capital.
